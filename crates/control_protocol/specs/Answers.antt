@@ -1,9 +1,11 @@
 -- The texts of answers: lines, of which the last is `ok`, or `refused` and why.
-use Rattle.std.specs.Prelude.{◌++◌, ℕ, Bool, true, false, Option, None, Some, List, codes}
+use Rattle.std.specs.Prelude.{◌++◌, ℕ, Bool, true, false, Option, None, Some, List, [], codes}
 use Rattle.std.specs.Fmt.{decimal}
 use Rattle.std.specs.Net.Text.{socket_text}
 use Rattle.std.specs.declared.net.socket_addr.SocketAddr.{SocketAddr}
 use Rattle.ports.specs.declared.watch.Status.{Status}
+use Rattle.tmmbr_tuple.specs.declared.ssrc.Ssrc.{Ssrc}
+use Rattle.control_protocol.specs.declared.answer.EndpointLine.{EndpointLine}
 use Rattle.control_protocol.specs.declared.answer.Refused.{Refused}
 use Rattle.control_protocol.specs.declared.answer.Unheard.{Unheard}
 use Rattle.control_protocol.specs.declared.answer.Refused.TheVariants.{Unknown, Leg, Publisher, Recorded, Unrecorded, Long, Full, Memory}
@@ -67,9 +69,24 @@ heard_part (Some ago_ms) = codes " heard " ++ (decimal ago_ms ++ codes " ms ago"
 
 -- how often something was refused of what came from it
 abbrev pub refused_part : ℕ → List ℕ
-refused_part refused = codes " refused " ++ (decimal refused ++ codes "\n")
+refused_part refused = codes " refused " ++ decimal refused
 
--- the line of an endpoint: who it is, when it was heard last, and how often something of it was refused
-abbrev pub presence_line : ℕ → ℕ → SocketAddr → Bool → Option ℕ → ℕ → List ℕ
-presence_line endpoint source address is_present heard_ago_ms refused =
-    who_part endpoint source address is_present ++ (heard_part heard_ago_ms ++ refused_part refused)
+-- whether it only listens
+abbrev pub listening_word : Bool → List ℕ
+listening_word true = codes " receive_only"
+listening_word false = []
+
+-- under which SSRC that isn't its own an RTP packet came from its address last
+abbrev pub other_source_part : Option Ssrc → List ℕ
+other_source_part None = []
+other_source_part (Some source) = codes " under ssrc " ++ decimal source.0
+
+abbrev pub end_part : EndpointLine → List ℕ
+end_part l = listening_word l.only_listens ++ (other_source_part l.other_source ++ codes "\n")
+
+-- The line of an endpoint: who it is, when it was heard last, how often something of it was refused, whether it only listens,
+-- and under which other SSRC it sent.
+abbrev pub presence_line : EndpointLine → List ℕ
+presence_line l =
+    who_part l.endpoint l.source.0 l.address l.is_present
+    ++ (heard_part l.heard_ago_ms ++ (refused_part l.refused ++ end_part l))

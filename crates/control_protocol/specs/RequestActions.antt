@@ -4,9 +4,9 @@ use Rattle.ports.specs.declared.feed.Received.TheVariants as received
 use Rattle.ports.specs.declared.watch.Look.TheVariants.{Presence, Desk}
 use Rattle.control_protocol.specs.declared.answer.Refused.TheVariants.{Leg, Publisher, Recorded, Unrecorded}
 use Rattle.control_protocol.specs.declared.request.Request.{Request}
-use Rattle.control_protocol.specs.declared.request.Request.TheVariants.{Select, Present, Legs as AskLegs, Counts as AskCounts, Metrics as AskMetrics, Reports as AskReports, Refusals as AskRefusals, Strangers as AskStrangers, Record as AskRecord, EndRecord as AskEndRecord, Show, Stop}
+use Rattle.control_protocol.specs.declared.request.Request.TheVariants.{Select, Present, Legs as AskLegs, Counts as AskCounts, Metrics as AskMetrics, Reports as AskReports, Refusals as AskRefusals, Strangers as AskStrangers, Record as AskRecord, EndRecord as AskEndRecord, Why as AskWhy, Show, Stop}
 use Rattle.control_protocol.specs.declared.request_action.RequestAction.{RequestAction}
-use Rattle.control_protocol.specs.declared.request_action.RequestAction.TheVariants.{Refuse, Do, Counts, Look, Legs, Metrics, Reports, Refusals, Strangers, Record, EndRecord}
+use Rattle.control_protocol.specs.declared.request_action.RequestAction.TheVariants.{Refuse, Do, Counts, Look, Legs, Metrics, Reports, Refusals, Strangers, Why, Record, EndRecord}
 
 -- of a room with so many legs and endpoints, which is being recorded or not: a selection or a stop comes to the unit as it was asked for; a
 -- leg or an endpoint that isn't there is refused; there is one record at a time
@@ -23,6 +23,8 @@ action_for AskStrangers legs endpoints is_recorded = Strangers
 action_for AskRecord legs endpoints is_recorded = if is_recorded then Refuse Recorded else Record
 action_for AskEndRecord legs endpoints is_recorded =
     if is_recorded then EndRecord else Refuse Unrecorded
+action_for (AskWhy leg) legs endpoints is_recorded =
+    if nat_lt leg legs then Why leg else Refuse Leg
 action_for (Show publisher) legs endpoints is_recorded =
     if nat_lt publisher endpoints then Look (Desk publisher) else Refuse Publisher
 action_for Stop legs endpoints is_recorded = Do received.Stop

@@ -3,7 +3,7 @@ use Rattle.std.specs.Prelude.{ℕ, ◌^◌, Bool, true, false, List, [], ◌∷�
 use Rattle.std.specs.Str.{bytes_eq}
 use Rattle.request_text.specs.Words.{number_under, words_in}
 use Rattle.control_protocol.specs.declared.request.Request.{Request}
-use Rattle.control_protocol.specs.declared.request.Request.TheVariants.{Select, Present, Legs, Counts, Metrics, Reports, Refusals, Strangers, Record, EndRecord, Show, Stop}
+use Rattle.control_protocol.specs.declared.request.Request.TheVariants.{Select, Present, Legs, Counts, Metrics, Reports, Refusals, Strangers, Record, EndRecord, Why, Show, Stop}
 
 -- ---- the words after the first
 
@@ -16,6 +16,11 @@ abbrev pub select_asked : List (List ℕ) → Option Request
 select_asked (leg ∷ (on ∷ [])) =
     option_and_then (λ l. option_map (λ b. Select l b) (switched on)) (number_under (2 ^ 16) leg)
 select_asked words = None
+
+-- a leg
+abbrev pub why_asked : List (List ℕ) → Option Request
+why_asked (leg ∷ []) = option_map Why (number_under (2 ^ 16) leg)
+why_asked words = None
 
 -- a publisher
 abbrev pub show_asked : List (List ℕ) → Option Request
@@ -47,6 +52,7 @@ request_words (first ∷ others) =
     else if bytes_eq first (codes "refusals") then alone_words Refusals others
     else if bytes_eq first (codes "strangers") then alone_words Strangers others
     else if bytes_eq first (codes "record") then record_asked others
+    else if bytes_eq first (codes "why") then why_asked others
     else if bytes_eq first (codes "show") then show_asked others
     else if bytes_eq first (codes "stop") then alone_words Stop others
     else None

@@ -2,7 +2,7 @@
 
 ghost use Rattle.std.specs.Prelude.{◌≡◌, ◌++◌, codes, IfOk, OnOk};
 ghost use Rattle.std.specs.String.{string_bytes};
-ghost use Rattle.control_protocol.specs.Answers.{counts_lines, flow_part, heard_part, loss_part, presence_line, refusal_text, refused_part, stranger_line, unheard_part, unread_part, who_part};
+ghost use Rattle.control_protocol.specs.Answers.{counts_lines, end_part, flow_part, heard_part, listening_word, loss_part, other_source_part, presence_line, refusal_text, refused_part, stranger_line, unheard_part, unread_part, who_part};
 
 use ports::Status;
 use std::alloc::{AllocError, Global};
@@ -124,24 +124,69 @@ fn push_unread(text: &mut String, unread: Option<u64>) -> Result<(), AllocError>
     }
 }
 
+/// An endpoint as `present` tells of it.
+#[derive(Clone, Copy, PartialEq, Eq)]
+pub struct EndpointLine {
+    /// Its number.
+    pub endpoint: u16,
+    /// The SSRC that it has by the settings.
+    pub source: Ssrc,
+    pub address: SocketAddr,
+    pub is_present: bool,
+    /// How many milliseconds ago a datagram of it came last; `None` if none did.
+    pub heard_ago_ms: Option<u64>,
+    /// How often something of it was refused.
+    pub refused: u64,
+    /// Whether it is present whatever it says.
+    pub only_listens: bool,
+    /// Under which other SSRC an RTP packet came from its address last; `None` if none did.
+    pub other_source: Option<Ssrc>,
+}
+
 /// The line of an endpoint for `present`: its number, source and address, and whether it is present. Then how many milliseconds ago it was heard
-/// last, if ever, and how often something of it was refused. Refused for want of memory alone.
-pub fn present_line(
-    alloc: Global,
-    endpoint: u16,
-    source: Ssrc,
-    address: SocketAddr,
-    is_present: bool,
-    heard_ago_ms: Option<u64>,
-    refused: u64,
-) -> Result<String, AllocError>
-    ensures { IfOk result (λ text. string_bytes text
-        ≡ presence_line endpoint source.0 address is_present heard_ago_ms refused) }
+/// last, if ever, and how often something of it was refused; that it only listens, if it does, and under which other SSRC it sent last.
+/// Refused for want of memory alone.
+pub fn present_line(alloc: Global, line: &EndpointLine) -> Result<String, AllocError>
+    ensures { IfOk result (λ text. string_bytes text ≡ presence_line line.now) }
 {
-    let mut text = who_part(alloc, endpoint, source, address, is_present)?;
-    push_heard(&mut text, heard_ago_ms)?;
-    push_refused(&mut text, refused)?;
+    let mut text = who_part(
+        alloc,
+        line.endpoint,
+        line.source,
+        line.address,
+        line.is_present,
+    )?;
+    push_heard(&mut text, line.heard_ago_ms)?;
+    push_refused(&mut text, line.refused)?;
+    push_end(&mut text, line)?;
     Ok(text)
+}
+
+/// What stands at the end of the line of an endpoint.
+fn push_end(text: &mut String, line: &EndpointLine) -> Result<(), AllocError>
+    ensures { OnOk result (string_bytes text.new ≡ string_bytes text.old ++ end_part line.now) }
+{
+    text.push_str(listening_word(line.only_listens))?;
+    push_other_source(text, line.other_source)?;
+    text.push_str("\n")
+}
+
+/// Whether the endpoint only listens.
+fn listening_word(only_listens: bool) -> &'static str
+    ensures { result.now ≡ listening_word only_listens }
+{
+    if only_listens { " receive_only" } else { "" }
+}
+
+/// Under which other SSRC it sent.
+fn push_other_source(text: &mut String, source: Option<Ssrc>) -> Result<(), AllocError>
+    ensures { OnOk result
+        (string_bytes text.new ≡ string_bytes text.old ++ other_source_part source) }
+{
+    match source {
+        Some(source) => write!(text, " under ssrc {}", source.0),
+        None => Ok(()),
+    }
 }
 
 /// Who an endpoint is, and whether it is present.
@@ -173,5 +218,5 @@ fn push_heard(text: &mut String, ago_ms: Option<u64>) -> Result<(), AllocError>
 fn push_refused(text: &mut String, refused: u64) -> Result<(), AllocError>
     ensures { OnOk result (string_bytes text.new ≡ string_bytes text.old ++ refused_part refused) }
 {
-    write!(text, " refused {refused}\n")
+    write!(text, " refused {refused}")
 }

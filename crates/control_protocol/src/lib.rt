@@ -16,7 +16,8 @@ mod screened;
 mod shortage;
 
 pub use answer::{
-    Refused, Unheard, counts_text, done_text, present_line, refused_text, stranger_line,
+    EndpointLine, Refused, Unheard, counts_text, done_text, present_line, refused_text,
+    stranger_line,
 };
 pub use ask::{Answered, read_answer};
 pub use inbox::{Inbox, MAX_INBOX};

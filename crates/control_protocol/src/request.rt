@@ -1,7 +1,7 @@
 //! What a peer asks for.
 
 ghost use Rattle.std.specs.Prelude.{◌≡◌, IfOk, map};
-ghost use Rattle.control_protocol.specs.Requests.{alone_words, record_asked, request_in, request_words, select_asked, show_asked, switched};
+ghost use Rattle.control_protocol.specs.Requests.{alone_words, record_asked, request_in, request_words, select_asked, show_asked, switched, why_asked};
 
 use request_text::{is_word, number_u16, words_of};
 use std::alloc::{AllocError, Global};
@@ -29,6 +29,8 @@ pub enum Request {
     Record,
     /// `record off`: that ends, and so does a record in a file.
     EndRecord,
+    /// `why LEG`: why the leg's subscriber sees nothing, or what it is sent.
+    Why(u16),
     /// `show P`: what is announced to this publisher, with its certificate.
     Show(u16),
     /// `stop`: the unit ends.
@@ -68,6 +70,8 @@ fn request_of(words: &[&[u8]]) -> Option<Request>
         alone(others, Request::Strangers)
     } else if is_word(first, b"record") {
         recorded(others)
+    } else if is_word(first, b"why") {
+        asked_why(others)
     } else if is_word(first, b"show") {
         shown(others)
     } else if is_word(first, b"stop") {
@@ -97,6 +101,16 @@ fn recorded(words: &[&[u8]]) -> Option<Request>
     match words {
         [] => Some(Request::Record),
         [off] if is_word(off, b"off") => Some(Request::EndRecord),
+        _ => None,
+    }
+}
+
+/// `LEG`.
+fn asked_why(words: &[&[u8]]) -> Option<Request>
+    ensures { result ≡ why_asked (map (λ x. x.now) words.now) }
+{
+    match words {
+        [leg] => Some(Request::Why(number_u16(leg)?)),
         _ => None,
     }
 }

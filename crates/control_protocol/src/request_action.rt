@@ -28,6 +28,8 @@ pub enum RequestAction {
     Refusals,
     /// Who came last of those who are nobody is asked for.
     Strangers,
+    /// Why the subscriber of this leg sees nothing is asked for.
+    Why(u16),
     /// A record begins, for who asked.
     Record,
     /// The record ends.
@@ -65,6 +67,13 @@ pub fn action_for(request: Request, legs: u16, endpoints: u16, is_recorded: bool
                 RequestAction::EndRecord
             } else {
                 RequestAction::Refuse(Refused::Unrecorded)
+            }
+        }
+        Request::Why(leg) => {
+            if leg < legs {
+                RequestAction::Why(leg)
+            } else {
+                RequestAction::Refuse(Refused::Leg)
             }
         }
         Request::Show(publisher) => {

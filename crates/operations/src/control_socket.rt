@@ -59,6 +59,7 @@ fn listed(alloc: Global, file: &ServedSettings) -> Result<Vec<EndpointInfo>, All
         all.push(EndpointInfo {
             source: *source,
             address: address_at_first(client.location, file.listen.media),
+            only_listens: client.receive_only,
         })?;
     }
     Ok(all)

@@ -7,12 +7,14 @@ use crate::steering::{PeerRequest, Steering};
 use control_protocol::{Screened, Unheard};
 use ports::{Look, Received, Status};
 use recording::{End, Recorder};
+use stats::Traffic;
 use std::alloc::Global;
 use std::cell::{Cell, RefCell, RefMut};
 use std::net::SocketAddr;
 use std::sync::Arc;
 use std::sync::atomic::{AtomicU64, Ordering};
 use std::thread::Threads;
+use tmmbr_tuple::Ssrc;
 
 /// What is shown of a run while it goes on.
 #[derive(Drop)]
@@ -235,11 +237,18 @@ impl RunStatus {
         }
     }
 
-    /// A datagram, or a packet of one, came from nobody, at this address.
-    pub fn count_stranger(&self, from: SocketAddr) {
+    /// A datagram, or a packet of one, came from nobody, at this address: an RTP packet under this SSRC, if one is given.
+    pub fn count_stranger(&self, from: SocketAddr, source: Option<Ssrc>) {
         self.strangers.set(self.strangers.get().saturating_add(1));
         if let Some(mut steering) = self.steering() {
-            steering.note_stranger(from, self.moment_ms.get());
+            steering.note_stranger(from, source, self.moment_ms.get());
+        }
+    }
+
+    /// An RTP packet came from this endpoint, under this SSRC; `own` is the endpoint's.
+    pub fn note_packet(&self, endpoint: u16, own: Ssrc, source: Ssrc) {
+        if let Some(mut steering) = self.steering() {
+            steering.note_packet(endpoint, own, source, self.moment_ms.get());
         }
     }
 
@@ -252,10 +261,13 @@ impl RunStatus {
         }
     }
 
-    /// What somebody wants to see of the room.
-    pub(crate) fn look(&self) -> Look {
+    /// What somebody wants to see of the room. What went out on legs is looked at, if that is due.
+    pub(crate) fn look(&self, traffic: &Traffic) -> Look {
         match self.steering() {
-            Some(steering) => steering.look(),
+            Some(mut steering) => {
+                steering.look_at_flow(traffic, self.moment_ms.get());
+                steering.look()
+            }
             None => Look::Nothing,
         }
     }

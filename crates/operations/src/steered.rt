@@ -26,7 +26,7 @@ impl<W: Watch + Drop> Watch for SteeredWatch<'_, W> {
     }
 
     fn look(&self) -> Look {
-        self.run_status.look()
+        self.run_status.look(self.traffic)
     }
 
     fn show_endpoint(&mut self, endpoint: u16, is_present: bool) {

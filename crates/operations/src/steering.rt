@@ -2,13 +2,15 @@
 
 ghost use Rattle.std.specs.Prelude.{◌≡◌, None, IfOk, length, map, replicate};
 
+use crate::diagnosing::Diagnosing;
 use addresses::Strangers;
 use control_protocol::{
-    Peers, Refused, RequestAction, SHORTAGE_EACH_MS, Screened, TAKEN_IN, Unheard, action_for,
-    counts_text, done_text, present_line, refused_text, says_shortage, screened_text,
+    EndpointLine, Peers, Refused, RequestAction, SHORTAGE_EACH_MS, Screened, TAKEN_IN, Unheard,
+    action_for, counts_text, done_text, present_line, refused_text, says_shortage, screened_text,
     stranger_line,
 };
 use desk::Desk;
+use diagnosis::reason_lines;
 use ports::{Look, Received, Status, Ticks};
 use recording::Switched;
 use request_text::desk_text;
@@ -29,6 +31,8 @@ const LOOK_MS: u64 = 10;
 pub struct EndpointInfo {
     pub source: Ssrc,
     pub address: SocketAddr,
+    /// Whether it is present whatever it says.
+    pub only_listens: bool,
 }
 
 /// Who steers the unit: the peers, and what one of them waits for.
@@ -55,6 +59,7 @@ pub struct Steering {
     strangers: Strangers,
     /// How many datagrams of each endpoint came beyond the limit, by its number.
     flooded: Vec<u64>,
+    diagnosing: Diagnosing,
 }
 
 /// What a peer wants.
@@ -80,6 +85,8 @@ enum OpenQuestion {
     Metrics,
     Reports,
     Refusals,
+    /// Why the subscriber of this leg sees nothing.
+    Why(u16),
     /// The unit stops: nobody waits for an answer, and who is present is to be known.
     Stop,
 }
@@ -108,6 +115,7 @@ impl Steering {
     {
         let began_on = selected_at_first(alloc, legs.as_slice())?;
         let flooded = vec![in alloc; 0; endpoints.len()]?;
+        let diagnosing = Diagnosing::new(alloc, endpoints.len(), legs.len())?;
         Ok(Steering {
             alloc,
             listener,
@@ -122,6 +130,7 @@ impl Steering {
             present: Vec::new(alloc),
             strangers: Strangers::new(alloc),
             flooded,
+            diagnosing,
         })
     }
 
@@ -153,6 +162,7 @@ impl Steering {
             RequestAction::Reports => self.begin(OpenQuestion::Reports),
             RequestAction::Refusals => self.begin(OpenQuestion::Refusals),
             RequestAction::Strangers => self.tell_strangers(moment),
+            RequestAction::Why(leg) => self.begin(OpenQuestion::Why(leg)),
             RequestAction::Record => {
                 if let Some(peer) = self.peers.take_last() {
                     return PeerRequest::Record(peer);
@@ -230,9 +240,25 @@ impl Steering {
         }
     }
 
-    /// A datagram came from this address, which is nobody's. If memory is wanting it isn't listed.
-    pub(crate) fn note_stranger(&mut self, from: SocketAddr, moment: u64) {
+    /// A datagram came from this address, which is nobody's: an RTP packet under this SSRC, if one is given. If memory is wanting it isn't
+    /// listed.
+    pub(crate) fn note_stranger(&mut self, from: SocketAddr, source: Option<Ssrc>, moment: u64) {
         let _ = self.strangers.note(from, moment);
+        if let Some(source) = source {
+            let endpoints = self.endpoints.as_slice();
+            self.diagnosing
+                .note_stranger(endpoints, source, from, moment);
+        }
+    }
+
+    /// An RTP packet came from this endpoint, under this SSRC; `own` is the endpoint's.
+    pub(crate) fn note_packet(&mut self, endpoint: u16, own: Ssrc, source: Ssrc, moment: u64) {
+        self.diagnosing.note_packet(endpoint, own, source, moment);
+    }
+
+    /// Looks at what went out on each leg, if that is due.
+    pub(crate) fn look_at_flow(&mut self, traffic: &Traffic, moment: u64) {
+        self.diagnosing.look(traffic, moment);
     }
 
     /// A datagram of this endpoint came beyond the limit.
@@ -269,6 +295,7 @@ impl Steering {
             OpenQuestion::Metrics
             | OpenQuestion::Reports
             | OpenQuestion::Refusals
+            | OpenQuestion::Why(_)
             | OpenQuestion::Stop => Look::Presence,
             OpenQuestion::Legs => Look::Stays,
             OpenQuestion::Nothing | OpenQuestion::Counts => Look::Nothing,
@@ -302,10 +329,19 @@ impl Steering {
     /// The line of an endpoint.
     fn push_endpoint(&mut self, endpoint: u16, is_present: bool, traffic: &Traffic, moment: u64) {
         if let Some(listed) = self.endpoints.get(usize::from(endpoint)) {
-            let EndpointInfo { source, address } = *listed;
-            let (ago_ms, refused) = heard_of(traffic, endpoint, moment);
+            let (heard_ago_ms, refused) = heard_of(traffic, endpoint, moment);
             let line = present_line(
-                self.alloc, endpoint, source, address, is_present, ago_ms, refused,
+                self.alloc,
+                &EndpointLine {
+                    endpoint,
+                    source: listed.source,
+                    address: listed.address,
+                    is_present,
+                    heard_ago_ms,
+                    refused,
+                    only_listens: listed.only_listens,
+                    other_source: self.diagnosing.other_source(endpoint),
+                },
             );
             self.push(line);
         }
@@ -356,12 +392,34 @@ impl Steering {
             OpenQuestion::Refusals => {
                 let text = refusals_text(self.alloc, traffic);
                 self.push(text);
+                let text = self.diagnosing.stray_lines(self.alloc, moment);
+                self.push(text);
+                self.answer();
+            }
+            OpenQuestion::Why(leg) => {
+                let text = self.why_text(leg, traffic, moment);
+                self.push(text);
                 self.answer();
             }
             OpenQuestion::Nothing
             | OpenQuestion::Counts
             | OpenQuestion::Legs
             | OpenQuestion::Look(_) => self.answer(),
+        }
+    }
+
+    /// The line that says why the subscriber of this leg sees nothing.
+    fn why_text(&self, leg: u16, traffic: &Traffic, moment: u64) -> Result<String, AllocError> {
+        let (endpoints, present) = (self.endpoints.as_slice(), self.present.as_slice());
+        let Some(line) = self.legs.get(usize::from(leg)).copied() else {
+            return Ok(String::new(self.alloc));
+        };
+        match self
+            .diagnosing
+            .reason(line, endpoints, present, traffic, moment)
+        {
+            Some(reason) => reason_lines(self.alloc, line, reason, moment),
+            None => Err(AllocError),
         }
     }
 

@@ -19,7 +19,7 @@ use crate::kept::Kept;
 use crate::policies::Policies;
 use crate::who::Who;
 use addresses::{Client, FirstPacket, Listening, SourceAddress};
-use datagram::Sent;
+use datagram::{Sent, source_named};
 use entrance::Admitted;
 use members::RoomView;
 use operations::RunStatus;
@@ -31,9 +31,13 @@ use stats::Traffic;
 use std::alloc::{AllocError, Global};
 use std::io;
 use std::net::{IpAddr, SocketAddr};
+use tmmbr_tuple::Ssrc;
 
 /// How many entries of one datagram there is room for from the beginning.
 const ENTRIES: usize = 256;
+
+/// The version of RTP, in the first two bits of a packet.
+const VERSION: u8 = 2;
 
 /// The packets of a datagram, or those after what was heard of it.
 #[derive(Clone, Copy)]
@@ -377,10 +381,19 @@ impl<'a> Hearing<'a> {
         match front.endpoint {
             Some(endpoint) => self.hear(view, moment, endpoint, from, end),
             None => {
-                self.run_status.count_stranger(address);
+                self.count_stranger(address, from, end);
                 Ok(Admitted::Nothing)
             }
         }
+    }
+
+    /// Counts what came from nobody, at this address, and stands there.
+    fn count_stranger(&self, address: SocketAddr, from: usize, to: usize)
+        requires { (from ≤ to) × (to ≤ length self.now.kept.buffer.items) }
+    {
+        let packets = &self.kept.buffer.as_slice()[from..to];
+        self.run_status
+            .count_stranger(address, media_source(packets));
     }
 
     /// What is heard of an endpoint's packets: they are read, their endpoint is welcomed, and they are counted and judged.
@@ -537,18 +550,33 @@ impl<'a> Hearing<'a> {
     }
 }
 
+/// Under which SSRC an RTP packet is, if these are one (RFC 3550, section 5.1).
+fn media_source(packets: &[u8]) -> Option<Ssrc> {
+    let first = packets.first()?;
+    if *first / 64 != VERSION || is_rtcp(packets) {
+        return None;
+    }
+    match source_named(packets) {
+        Some(source) => Some(Ssrc(source)),
+        None => None,
+    }
+}
+
 /// Counts what was read.
 fn count(kept: &Kept, traffic: &Traffic, run_status: &RunStatus) {
     let Sent {
         moment,
         endpoint,
-        ..
+        own,
     } = kept.sent;
     let bytes = kept.bytes();
     if is_rtcp(bytes) {
         traffic.heard_control(endpoint, bytes.len(), &kept.notes, moment);
     } else {
         traffic.heard_packet(endpoint, bytes.len(), moment);
+        if let Some(source) = media_source(bytes) {
+            run_status.note_packet(endpoint, own, source);
+        }
     }
     let beyond = run_status.beyond.get();
     run_status

@@ -1,0 +1,4 @@
+pub mod Sightings
+pub mod Flow
+pub mod Reasons
+pub mod ReasonLine

@@ -1,0 +1,86 @@
+-- The line that says why a subscriber sees nothing, for people.
+use Rattle.std.specs.Prelude.{ℕ, ◌-◌, ◌++◌, List, [], Option, None, Some, codes}
+use Rattle.std.specs.Fmt.{decimal}
+use Rattle.std.specs.Net.Text.{socket_text}
+use Rattle.std.specs.declared.net.socket_addr.SocketAddr.{SocketAddr}
+use Rattle.tmmbr_tuple.specs.declared.ssrc.Ssrc.{Ssrc}
+use Rattle.stats.specs.declared.lines.LegLine.{LegLine}
+use Rattle.stats.specs.declared.reports.ReceptionReport.{ReceptionReport}
+use Rattle.stats.specs.ReportLines.{line_of_leg_report}
+use Rattle.diagnosis.specs.declared.reasons.Reason.{Reason}
+use Rattle.diagnosis.specs.declared.reasons.Reason.TheVariants.{Off, OtherSource, OtherPlace, PublisherAbsent, NoMedia, SubscriberAbsent, Skipped, Reported, OnlyListens, Unreported}
+use Rattle.diagnosis.specs.Reasons.{report_in}
+use Rattle.diagnosis.specs.declared.sightings.StraySource.{StraySource}
+
+-- which leg, between whom
+abbrev pub leg_words : LegLine → List ℕ
+leg_words l =
+    codes "leg "
+    ++ (decimal l.leg ++ (codes " from " ++ (decimal l.publisher
+    ++ (codes " to " ++ (decimal l.subscriber ++ codes ": ")))))
+
+abbrev pub opening_words : Reason → List ℕ
+opening_words Off = codes "off"
+opening_words (OtherSource source ago) = codes "from the publisher's address packets come under SSRC "
+opening_words (OtherPlace address ago) = codes "under the publisher's SSRC packets come from "
+opening_words (PublisherAbsent ago) = codes "the publisher is absent, last heard: "
+opening_words (NoMedia ago) = codes "the publisher sends no media, last packet: "
+opening_words (SubscriberAbsent ago) = codes "the subscriber is absent, last heard: "
+opening_words (Skipped rate) = codes "packets come and are skipped: "
+opening_words (Reported rate report) = codes "sent; the subscriber reports"
+opening_words (OnlyListens rate ago) = codes "sent; the subscriber only listens, last heard: "
+opening_words (Unreported rate ago) = codes "sent; the subscriber doesn't report, last report: "
+
+abbrev pub ago_words : ℕ → List ℕ
+ago_words ago = codes ", last: " ++ (decimal ago ++ codes " ms ago")
+
+-- under which SSRC packets come, and how long ago the last did
+abbrev pub source_words : Ssrc → ℕ → List ℕ
+source_words source ago = decimal source.0 ++ ago_words ago
+
+-- from which address
+abbrev pub place_words : SocketAddr → ℕ → List ℕ
+place_words address ago = socket_text address ++ ago_words ago
+
+-- how long ago something was last
+abbrev pub last_words : Option ℕ → List ℕ
+last_words None = codes "never"
+last_words (Some ago) = decimal ago ++ codes " ms ago"
+
+-- how much is sent
+abbrev pub rate_words : ℕ → List ℕ
+rate_words rate = codes "; " ++ (decimal rate ++ codes " packets a second")
+
+abbrev pub detail_words : Reason → List ℕ
+detail_words Off = []
+detail_words (OtherSource source ago) = source_words source ago
+detail_words (OtherPlace address ago) = place_words address ago
+detail_words (PublisherAbsent ago) = last_words ago
+detail_words (NoMedia ago) = last_words ago
+detail_words (SubscriberAbsent ago) = last_words ago
+detail_words (Skipped rate) = decimal rate ++ codes " a second"
+detail_words (Reported rate report) = rate_words rate
+detail_words (OnlyListens rate ago) = last_words ago ++ rate_words rate
+detail_words (Unreported rate ago) = last_words ago ++ rate_words rate
+
+-- the line of a leg
+abbrev pub line_of_reason : LegLine → Reason → List ℕ
+line_of_reason l reason =
+    leg_words l ++ (opening_words reason ++ (detail_words reason ++ codes "\n"))
+
+-- what was reported of the leg
+abbrev pub reported_line : LegLine → Option ReceptionReport → ℕ → List ℕ
+reported_line l None moment = []
+reported_line l (Some report) moment = line_of_leg_report l report moment
+
+-- the line of a leg, and of what is reported of it
+abbrev pub lines_of_reason : LegLine → Reason → ℕ → List ℕ
+lines_of_reason l reason moment =
+    line_of_reason l reason ++ reported_line l (report_in reason) moment
+
+-- under which SSRC packets come from an endpoint's address, though that isn't its own
+abbrev pub line_of_stray : ℕ → StraySource → ℕ → List ℕ
+line_of_stray endpoint stray moment =
+    codes "endpoint "
+    ++ (decimal endpoint
+    ++ (codes " under SSRC " ++ (source_words stray.source (moment - stray.moment) ++ codes "\n")))

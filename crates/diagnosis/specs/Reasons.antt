@@ -1,0 +1,121 @@
+-- Why a subscriber sees nothing, or what it is sent.
+use Rattle.std.specs.Prelude.{ℕ, ◌-◌, ◌==◌, ◌&&◌, nat_le, nat_lt, Bool, true, List, [], ◌∷◌, Option, None, Some, option_and_then, unwrap_or, if◌then◌else◌}
+use Rattle.std.specs.Option.{option_or}
+use Rattle.stats.specs.declared.reports.ReceptionReport.{ReceptionReport}
+use Rattle.stats.specs.Reports.{age_of, is_shown}
+use Rattle.diagnosis.specs.declared.facts.LegFacts.{LegFacts}
+use Rattle.diagnosis.specs.declared.reasons.Reason.{Reason}
+use Rattle.diagnosis.specs.declared.reasons.Reason.TheVariants.{Off, OtherSource, OtherPlace, PublisherAbsent, NoMedia, SubscriberAbsent, Skipped, Reported, OnlyListens, Unreported}
+use Rattle.diagnosis.specs.declared.reasons.TheConstants.{LATELY_MS}
+use Rattle.diagnosis.specs.declared.sightings.StrayPlace.{StrayPlace}
+use Rattle.diagnosis.specs.declared.sightings.StraySource.{StraySource}
+use Rattle.diagnosis.specs.Flow.{each_second}
+
+-- ---- what each reason stands on
+
+-- no media came for some while by this moment, if the last did at the first
+abbrev pub is_silent : Option ℕ → ℕ → Bool
+is_silent None moment = true
+is_silent (Some media) moment = nat_le LATELY_MS (moment - media)
+
+-- how long before this moment something was
+abbrev pub age_at : Option ℕ → ℕ → Option ℕ
+age_at None moment = None
+age_at (Some then_ms) moment = Some (moment - then_ms)
+
+-- how long before this moment a report passed
+abbrev pub report_age : Option ReceptionReport → ℕ → Option ℕ
+report_age None moment = None
+report_age (Some r) moment = Some (age_of r moment)
+
+-- how many packets a second went out on the leg of late
+abbrev pub flow_rate : LegFacts → ℕ
+flow_rate f = each_second f.flow.packets f.flow.ms
+
+-- ---- the reasons
+
+abbrev pub off : LegFacts → Option Reason
+off f = if f.is_on then None else Some Off
+
+-- media came under another SSRC while the publisher's own didn't come
+abbrev pub source_reason : Option ℕ → ℕ → StraySource → Option Reason
+source_reason media moment stray = if is_silent media stray.moment
+    then Some (OtherSource stray.source (moment - stray.moment)) else None
+
+abbrev pub other_source : LegFacts → Option Reason
+other_source f = option_and_then (source_reason f.publisher.sighting.media_ms f.moment) f.publisher.sighting.source
+
+-- media came from elsewhere under the publisher's SSRC while its own didn't come
+abbrev pub place_reason : Option ℕ → ℕ → StrayPlace → Option Reason
+place_reason media moment stray = if is_silent media stray.moment
+    then Some (OtherPlace stray.address (moment - stray.moment)) else None
+
+abbrev pub other_place : LegFacts → Option Reason
+other_place f = option_and_then (place_reason f.publisher.sighting.media_ms f.moment) f.publisher.sighting.place
+
+abbrev pub publisher_absent : LegFacts → Option Reason
+publisher_absent f = if f.publisher.is_present then None
+    else Some (PublisherAbsent (age_at f.publisher.heard_ms f.moment))
+
+abbrev pub no_media : LegFacts → Option Reason
+no_media f = if is_silent f.publisher.sighting.media_ms f.moment
+    then Some (NoMedia (age_at f.publisher.sighting.media_ms f.moment)) else None
+
+abbrev pub subscriber_absent : LegFacts → Option Reason
+subscriber_absent f = if f.subscriber.is_present then None
+    else Some (SubscriberAbsent (age_at f.subscriber.heard_ms f.moment))
+
+-- media come, and none is sent on
+abbrev pub skipped : LegFacts → Option Reason
+skipped f = if (f.flow.packets == 0) && nat_lt 0 f.flow.skipped
+    then Some (Skipped (each_second f.flow.skipped f.flow.ms)) else None
+
+-- a report that is still shown
+abbrev pub report_reason : ℕ → ℕ → ReceptionReport → Option Reason
+report_reason rate moment r =
+    if is_shown r moment then Some (Reported rate r) else None
+
+abbrev pub reported : LegFacts → Option Reason
+reported f = option_and_then (report_reason (flow_rate f) f.moment) f.report
+
+abbrev pub subscriber_listens : LegFacts → Option Reason
+subscriber_listens f = if f.subscriber.only_listens
+    then Some (OnlyListens (flow_rate f) (age_at f.subscriber.heard_ms f.moment)) else None
+
+abbrev pub unreported : LegFacts → Reason
+unreported f = Unreported (flow_rate f) (report_age f.report f.moment)
+
+-- what the subscriber reports, if that is said
+abbrev pub report_in : Reason → Option ReceptionReport
+report_in Off = None
+report_in (OtherSource source ago) = None
+report_in (OtherPlace address ago) = None
+report_in (PublisherAbsent ago) = None
+report_in (NoMedia ago) = None
+report_in (SubscriberAbsent ago) = None
+report_in (Skipped rate) = None
+report_in (Reported rate report) = Some report
+report_in (OnlyListens rate ago) = None
+report_in (Unreported rate ago) = None
+
+-- ---- which is said
+
+-- the first of them that is there
+abbrev pub first_there : Option Reason → List (Option Reason) → Option Reason
+first_there reason [] = reason
+first_there reason (next ∷ others) = first_there (option_or reason next) others
+
+-- what keeps media from coming
+abbrev pub publisher_trouble : LegFacts → Option Reason
+publisher_trouble f =
+    first_there (off f)
+    (other_source f ∷ (other_place f ∷ (publisher_absent f ∷ (no_media f ∷ []))))
+
+-- what becomes of media that come
+abbrev pub subscriber_state : LegFacts → Option Reason
+subscriber_state f =
+    first_there (subscriber_absent f) (skipped f ∷ (reported f ∷ (subscriber_listens f ∷ [])))
+
+-- the first that applies, or else that the subscriber doesn't report
+abbrev pub why : LegFacts → Reason
+why f = unwrap_or (option_or (publisher_trouble f) (subscriber_state f)) (unreported f)

@@ -1,0 +1,164 @@
+//! The lines that say why a subscriber sees nothing, for people.
+
+ghost use Rattle.std.specs.Prelude.{◌≡◌, ◌++◌, IfOk, OnOk};
+ghost use Rattle.std.specs.String.{string_bytes};
+ghost use Rattle.diagnosis.specs.ReasonLine.{detail_words, last_words, leg_words, line_of_reason, line_of_stray, lines_of_reason, opening_words, place_words, rate_words, reported_line, source_words};
+
+use crate::reasons::Reason;
+use crate::sightings::StraySource;
+use stats::{LegLine, ReceptionReport, leg_report_line};
+use std::alloc::{AllocError, Global};
+use std::net::SocketAddr;
+use tmmbr_tuple::Ssrc;
+
+/// The line of a leg: between whom it is, and the reason. If its subscriber reports, that is followed by what it reported last, and how many
+/// milliseconds before this moment. Refused for want of memory alone.
+pub fn reason_lines(
+    alloc: Global,
+    line: LegLine,
+    reason: Reason,
+    moment: u64,
+) -> Result<String, AllocError>
+    ensures { IfOk result (λ text. string_bytes text ≡ lines_of_reason line reason moment) }
+{
+    let mut text = reason_line(alloc, line, reason)?;
+    push_report(alloc, &mut text, line, reason.report(), moment)?;
+    Ok(text)
+}
+
+/// What was reported of a leg.
+fn push_report(
+    alloc: Global,
+    text: &mut String,
+    line: LegLine,
+    report: Option<ReceptionReport>,
+    moment: u64,
+) -> Result<(), AllocError>
+    ensures { OnOk result
+        (string_bytes text.new ≡ string_bytes text.old ++ reported_line line report moment) }
+{
+    match report {
+        Some(report) => {
+            let reported = leg_report_line(alloc, line, &report, moment)?;
+            text.push_str(reported.as_str())
+        }
+        None => Ok(()),
+    }
+}
+
+/// The line of a leg.
+fn reason_line(alloc: Global, line: LegLine, reason: Reason) -> Result<String, AllocError>
+    ensures { IfOk result (λ text. string_bytes text ≡ line_of_reason line reason) }
+{
+    let mut text = leg_words(alloc, line)?;
+    text.push_str(opening_words(reason))?;
+    push_detail(&mut text, reason)?;
+    text.push_str("\n")?;
+    Ok(text)
+}
+
+/// Which leg it is.
+fn leg_words(alloc: Global, line: LegLine) -> Result<String, AllocError>
+    ensures { IfOk result (λ text. string_bytes text ≡ leg_words line) }
+{
+    format!(in alloc;
+        "leg {} from {} to {}: ",
+        line.leg, line.publisher, line.subscriber
+    )
+}
+
+/// What the reason is.
+fn opening_words(reason: Reason) -> &'static str
+    ensures { result.now ≡ opening_words reason }
+{
+    match reason {
+        Reason::Off => "off",
+        Reason::OtherSource(..) => "from the publisher's address packets come under SSRC ",
+        Reason::OtherPlace(..) => "under the publisher's SSRC packets come from ",
+        Reason::PublisherAbsent(_) => "the publisher is absent, last heard: ",
+        Reason::NoMedia(_) => "the publisher sends no media, last packet: ",
+        Reason::SubscriberAbsent(_) => "the subscriber is absent, last heard: ",
+        Reason::Skipped(_) => "packets come and are skipped: ",
+        Reason::Reported(..) => "sent; the subscriber reports",
+        Reason::OnlyListens(..) => "sent; the subscriber only listens, last heard: ",
+        Reason::Unreported(..) => "sent; the subscriber doesn't report, last report: ",
+    }
+}
+
+/// What is said of it more closely.
+fn push_detail(text: &mut String, reason: Reason) -> Result<(), AllocError>
+    ensures { OnOk result
+        (string_bytes text.new ≡ string_bytes text.old ++ detail_words reason) }
+{
+    match reason {
+        Reason::Off => Ok(()),
+        Reason::OtherSource(source, ago_ms) => push_source(text, source, ago_ms),
+        Reason::OtherPlace(address, ago_ms) => push_place(text, address, ago_ms),
+        Reason::PublisherAbsent(ago_ms) => push_last(text, ago_ms),
+        Reason::NoMedia(ago_ms) => push_last(text, ago_ms),
+        Reason::SubscriberAbsent(ago_ms) => push_last(text, ago_ms),
+        Reason::Skipped(rate) => write!(text, "{rate} a second"),
+        Reason::Reported(rate, _) => push_rate(text, rate),
+        Reason::OnlyListens(rate, ago_ms) => push_last_and_rate(text, rate, ago_ms),
+        Reason::Unreported(rate, ago_ms) => push_last_and_rate(text, rate, ago_ms),
+    }
+}
+
+/// Under which SSRC packets come.
+fn push_source(text: &mut String, source: Ssrc, ago_ms: u64) -> Result<(), AllocError>
+    ensures { OnOk result
+        (string_bytes text.new ≡ string_bytes text.old ++ source_words source ago_ms) }
+{
+    write!(text, "{}, last: {ago_ms} ms ago", source.0)
+}
+
+/// From which address packets come.
+fn push_place(text: &mut String, address: SocketAddr, ago_ms: u64) -> Result<(), AllocError>
+    ensures { OnOk result
+        (string_bytes text.new ≡ string_bytes text.old ++ place_words address ago_ms) }
+{
+    write!(text, "{address}, last: {ago_ms} ms ago")
+}
+
+/// How long ago something was last.
+fn push_last(text: &mut String, ago_ms: Option<u64>) -> Result<(), AllocError>
+    ensures { OnOk result (string_bytes text.new ≡ string_bytes text.old ++ last_words ago_ms) }
+{
+    match ago_ms {
+        Some(ago_ms) => write!(text, "{ago_ms} ms ago"),
+        None => text.push_str("never"),
+    }
+}
+
+/// How long ago something was last, and how much is sent.
+fn push_last_and_rate(text: &mut String, rate: u64, ago_ms: Option<u64>) -> Result<(), AllocError>
+    ensures { OnOk result (string_bytes text.new
+        ≡ string_bytes text.old ++ (last_words ago_ms ++ rate_words rate)) }
+{
+    push_last(text, ago_ms)?;
+    push_rate(text, rate)
+}
+
+/// How much is sent.
+fn push_rate(text: &mut String, rate: u64) -> Result<(), AllocError>
+    ensures { OnOk result (string_bytes text.new ≡ string_bytes text.old ++ rate_words rate) }
+{
+    write!(text, "; {rate} packets a second")
+}
+
+/// The line that says under which SSRC, which isn't the endpoint's, an RTP packet came from its address last, and how many milliseconds before
+/// this moment. Refused for want of memory alone.
+pub fn stray_line(
+    alloc: Global,
+    endpoint: u16,
+    stray: StraySource,
+    moment: u64,
+) -> Result<String, AllocError>
+    ensures { IfOk result (λ text. string_bytes text ≡ line_of_stray endpoint stray moment) }
+{
+    let ago_ms = moment.saturating_sub(stray.moment);
+    let mut text = format!(in alloc; "endpoint {endpoint} under SSRC ")?;
+    push_source(&mut text, stray.source, ago_ms)?;
+    text.push_str("\n")?;
+    Ok(text)
+}

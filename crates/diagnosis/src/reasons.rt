@@ -1,0 +1,259 @@
+//! Why a subscriber sees nothing, or what it is sent.
+
+ghost use Rattle.std.specs.Prelude.{◌≡◌};
+ghost use Rattle.diagnosis.specs.Reasons.{age_at, flow_rate, is_silent, no_media, off, other_place, other_source, place_reason, publisher_absent, publisher_trouble, report_age, report_reason, reported, skipped, source_reason, subscriber_absent, subscriber_listens, subscriber_state, unreported, why};
+
+use crate::facts::LegFacts;
+use crate::flow::each_second;
+use crate::sightings::{StrayPlace, StraySource};
+use stats::ReceptionReport;
+use std::net::SocketAddr;
+use tmmbr_tuple::Ssrc;
+
+/// A publisher whose media come sends a packet at least once in so many milliseconds.
+pub const LATELY_MS: u64 = 2_000;
+
+/// Why a subscriber sees nothing, or what it is sent. How long ago something was is in milliseconds; `None` if it never was.
+#[derive(Clone, Copy, PartialEq, Eq)]
+pub enum Reason {
+    /// The leg isn't selected.
+    Off,
+    /// Media come from the publisher's address under this SSRC, which isn't the publisher's, the last so long ago.
+    OtherSource(Ssrc, u64),
+    /// Media come under the publisher's SSRC from this address, which isn't the publisher's, the last so long ago.
+    OtherPlace(SocketAddr, u64),
+    /// The publisher is absent; it was heard so long ago.
+    PublisherAbsent(Option<u64>),
+    /// The publisher is present and sends no media; the last came so long ago.
+    NoMedia(Option<u64>),
+    /// The subscriber is absent; it was heard so long ago.
+    SubscriberAbsent(Option<u64>),
+    /// So many packets a second come and are skipped.
+    Skipped(u64),
+    /// So many packets a second are sent, and the subscriber reported this last.
+    Reported(u64, ReceptionReport),
+    /// So many packets a second are sent to a subscriber that only listens, and was heard so long ago.
+    OnlyListens(u64, Option<u64>),
+    /// So many packets a second are sent, and the subscriber reports nothing; it did so long ago.
+    Unreported(u64, Option<u64>),
+}
+
+impl Reason {
+    ghost use Rattle.std.specs.Prelude.{◌≡◌};
+    ghost use Rattle.diagnosis.specs.Reasons.{report_in};
+
+    /// What the subscriber reported last, if that is the reason.
+    pub fn report(self) -> Option<ReceptionReport>
+        ensures { result ≡ report_in self }
+    {
+        match self {
+            Reason::Reported(_, report) => Some(report),
+            Reason::Off => None,
+            Reason::OtherSource(..) => None,
+            Reason::OtherPlace(..) => None,
+            Reason::PublisherAbsent(_) => None,
+            Reason::NoMedia(_) => None,
+            Reason::SubscriberAbsent(_) => None,
+            Reason::Skipped(_) => None,
+            Reason::OnlyListens(..) => None,
+            Reason::Unreported(..) => None,
+        }
+    }
+}
+
+/// The first reason that applies: what keeps the publisher's media away, what the subscriber does with them, or else that it doesn't say.
+pub fn why(facts: &LegFacts) -> Reason
+    ensures { result ≡ why facts.now }
+{
+    match publisher_trouble(facts).or(subscriber_state(facts)) {
+        Some(reason) => reason,
+        None => unreported(facts),
+    }
+}
+
+/// What keeps media from coming.
+fn publisher_trouble(facts: &LegFacts) -> Option<Reason>
+    ensures { result ≡ publisher_trouble facts.now }
+{
+    off(facts)
+        .or(other_source(facts))
+        .or(other_place(facts))
+        .or(publisher_absent(facts))
+        .or(no_media(facts))
+}
+
+/// What becomes of media that come.
+fn subscriber_state(facts: &LegFacts) -> Option<Reason>
+    ensures { result ≡ subscriber_state facts.now }
+{
+    subscriber_absent(facts)
+        .or(skipped(facts))
+        .or(reported(facts))
+        .or(subscriber_listens(facts))
+}
+
+/// The leg isn't selected.
+fn off(facts: &LegFacts) -> Option<Reason>
+    ensures { result ≡ off facts.now }
+{
+    if facts.is_on { None } else { Some(Reason::Off) }
+}
+
+/// Media come from the publisher's address under another SSRC, in place of its own.
+fn other_source(facts: &LegFacts) -> Option<Reason>
+    ensures { result ≡ other_source facts.now }
+{
+    let stray = facts.publisher.sighting.source?;
+    source_reason(stray, facts.publisher.sighting.media_ms, facts.moment)
+}
+
+fn source_reason(stray: StraySource, media_ms: Option<u64>, moment: u64) -> Option<Reason>
+    ensures { result ≡ source_reason media_ms moment stray }
+{
+    if is_silent(media_ms, stray.moment) {
+        Some(Reason::OtherSource(stray.source, moment.saturating_sub(stray.moment)))
+    } else {
+        None
+    }
+}
+
+/// Media come from elsewhere under the publisher's SSRC, in place of its own.
+fn other_place(facts: &LegFacts) -> Option<Reason>
+    ensures { result ≡ other_place facts.now }
+{
+    let stray = facts.publisher.sighting.place?;
+    place_reason(stray, facts.publisher.sighting.media_ms, facts.moment)
+}
+
+fn place_reason(stray: StrayPlace, media_ms: Option<u64>, moment: u64) -> Option<Reason>
+    ensures { result ≡ place_reason media_ms moment stray }
+{
+    if is_silent(media_ms, stray.moment) {
+        Some(Reason::OtherPlace(stray.address, moment.saturating_sub(stray.moment)))
+    } else {
+        None
+    }
+}
+
+/// The publisher is absent.
+fn publisher_absent(facts: &LegFacts) -> Option<Reason>
+    ensures { result ≡ publisher_absent facts.now }
+{
+    if facts.publisher.is_present {
+        None
+    } else {
+        let heard_ago_ms = age_at(facts.publisher.heard_ms, facts.moment);
+        Some(Reason::PublisherAbsent(heard_ago_ms))
+    }
+}
+
+/// The publisher is present, and its media don't come.
+fn no_media(facts: &LegFacts) -> Option<Reason>
+    ensures { result ≡ no_media facts.now }
+{
+    let media_ms = facts.publisher.sighting.media_ms;
+    if is_silent(media_ms, facts.moment) {
+        Some(Reason::NoMedia(age_at(media_ms, facts.moment)))
+    } else {
+        None
+    }
+}
+
+/// The subscriber is absent.
+fn subscriber_absent(facts: &LegFacts) -> Option<Reason>
+    ensures { result ≡ subscriber_absent facts.now }
+{
+    if facts.subscriber.is_present {
+        None
+    } else {
+        let heard_ago_ms = age_at(facts.subscriber.heard_ms, facts.moment);
+        Some(Reason::SubscriberAbsent(heard_ago_ms))
+    }
+}
+
+/// Media come, and none is sent on.
+fn skipped(facts: &LegFacts) -> Option<Reason>
+    ensures { result ≡ skipped facts.now }
+{
+    let flow = facts.flow;
+    if flow.packets == 0 && flow.skipped > 0 {
+        Some(Reason::Skipped(each_second(flow.skipped, flow.ms)))
+    } else {
+        None
+    }
+}
+
+/// The subscriber reports, and did so of late.
+fn reported(facts: &LegFacts) -> Option<Reason>
+    ensures { result ≡ reported facts.now }
+{
+    let report = facts.report?;
+    report_reason(report, flow_rate(facts), facts.moment)
+}
+
+fn report_reason(report: ReceptionReport, rate: u64, moment: u64) -> Option<Reason>
+    ensures { result ≡ report_reason rate moment report }
+{
+    if report.is_shown(moment) {
+        Some(Reason::Reported(rate, report))
+    } else {
+        None
+    }
+}
+
+/// The subscriber only listens.
+fn subscriber_listens(facts: &LegFacts) -> Option<Reason>
+    ensures { result ≡ subscriber_listens facts.now }
+{
+    if facts.subscriber.only_listens {
+        let heard_ago_ms = age_at(facts.subscriber.heard_ms, facts.moment);
+        Some(Reason::OnlyListens(flow_rate(facts), heard_ago_ms))
+    } else {
+        None
+    }
+}
+
+/// The subscriber doesn't report.
+fn unreported(facts: &LegFacts) -> Reason
+    ensures { result ≡ unreported facts.now }
+{
+    let reported_ago_ms = report_age(facts.report, facts.moment);
+    Reason::Unreported(flow_rate(facts), reported_ago_ms)
+}
+
+/// How many packets a second went out on the leg of late.
+fn flow_rate(facts: &LegFacts) -> u64
+    ensures { result ≡ flow_rate facts.now }
+{
+    each_second(facts.flow.packets, facts.flow.ms)
+}
+
+/// Whether no media came for `LATELY_MS` by this moment, if the last did at `media_ms`.
+fn is_silent(media_ms: Option<u64>, moment: u64) -> bool
+    ensures { result ≡ is_silent media_ms moment }
+{
+    match media_ms {
+        Some(media_ms) => moment.saturating_sub(media_ms) >= LATELY_MS,
+        None => true,
+    }
+}
+
+/// How long before this moment something was.
+fn age_at(then_ms: Option<u64>, moment: u64) -> Option<u64>
+    ensures { result ≡ age_at then_ms moment }
+{
+    match then_ms {
+        Some(then_ms) => Some(moment.saturating_sub(then_ms)),
+        None => None,
+    }
+}
+
+/// How long before this moment a report passed.
+fn report_age(report: Option<ReceptionReport>, moment: u64) -> Option<u64>
+    ensures { result ≡ report_age report moment }
+{
+    match report {
+        Some(report) => Some(report.age_ms(moment)),
+        None => None,
+    }
+}
