@@ -8,6 +8,10 @@ use Rattle.control_protocol.specs.declared.request.Request.TheVariants.{Select, 
 use Rattle.control_protocol.specs.declared.request_action.RequestAction.{RequestAction}
 use Rattle.control_protocol.specs.declared.request_action.RequestAction.TheVariants.{Refuse, Do, Counts, Look, Legs, Metrics, Reports, Refusals, Strangers, Why, Record, EndRecord}
 
+-- a leg that isn't there is refused
+abbrev pub why_action : ℕ → ℕ → RequestAction
+why_action leg legs = if nat_lt leg legs then Why leg else Refuse Leg
+
 -- of a room with so many legs and endpoints, which is being recorded or not: a selection or a stop comes to the unit as it was asked for; a
 -- leg or an endpoint that isn't there is refused; there is one record at a time
 abbrev pub action_for : Request → ℕ → ℕ → Bool → RequestAction
@@ -23,8 +27,7 @@ action_for AskStrangers legs endpoints is_recorded = Strangers
 action_for AskRecord legs endpoints is_recorded = if is_recorded then Refuse Recorded else Record
 action_for AskEndRecord legs endpoints is_recorded =
     if is_recorded then EndRecord else Refuse Unrecorded
-action_for (AskWhy leg) legs endpoints is_recorded =
-    if nat_lt leg legs then Why leg else Refuse Leg
+action_for (AskWhy leg) legs endpoints is_recorded = why_action leg legs
 action_for (Show publisher) legs endpoints is_recorded =
     if nat_lt publisher endpoints then Look (Desk publisher) else Refuse Publisher
 action_for Stop legs endpoints is_recorded = Do received.Stop

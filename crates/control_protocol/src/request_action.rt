@@ -1,7 +1,7 @@
 //! What a request leads to.
 
 ghost use Rattle.std.specs.Prelude.{◌≡◌};
-ghost use Rattle.control_protocol.specs.RequestActions.{action_for};
+ghost use Rattle.control_protocol.specs.RequestActions.{action_for, why_action};
 
 use crate::answer::Refused;
 use crate::request::Request;
@@ -69,13 +69,7 @@ pub fn action_for(request: Request, legs: u16, endpoints: u16, is_recorded: bool
                 RequestAction::Refuse(Refused::Unrecorded)
             }
         }
-        Request::Why(leg) => {
-            if leg < legs {
-                RequestAction::Why(leg)
-            } else {
-                RequestAction::Refuse(Refused::Leg)
-            }
-        }
+        Request::Why(leg) => why_action(leg, legs),
         Request::Show(publisher) => {
             if publisher < endpoints {
                 RequestAction::Look(Look::Desk(publisher))
@@ -84,5 +78,16 @@ pub fn action_for(request: Request, legs: u16, endpoints: u16, is_recorded: bool
             }
         }
         Request::Stop => RequestAction::Do(Received::Stop),
+    }
+}
+
+/// What the question leads to why the subscriber of this leg sees nothing.
+fn why_action(leg: u16, legs: u16) -> RequestAction
+    ensures { result ≡ why_action leg legs }
+{
+    if leg < legs {
+        RequestAction::Why(leg)
+    } else {
+        RequestAction::Refuse(Refused::Leg)
     }
 }

@@ -23,16 +23,17 @@ abbrev pub opening_words : Reason → List ℕ
 opening_words Off = codes "off"
 opening_words (OtherSource source ago) = codes "from the publisher's address packets come under SSRC "
 opening_words (OtherPlace address ago) = codes "under the publisher's SSRC packets come from "
-opening_words (PublisherAbsent ago) = codes "the publisher is absent, last heard: "
-opening_words (NoMedia ago) = codes "the publisher sends no media, last packet: "
-opening_words (SubscriberAbsent ago) = codes "the subscriber is absent, last heard: "
+opening_words (PublisherAbsent ago) = codes "the publisher is absent"
+opening_words (NoMedia ago) = codes "the publisher sends no media"
+opening_words (SubscriberAbsent ago) = codes "the subscriber is absent"
 opening_words (Skipped rate) = codes "packets come and are skipped: "
 opening_words (Reported rate report) = codes "sent; the subscriber reports"
-opening_words (OnlyListens rate ago) = codes "sent; the subscriber only listens, last heard: "
-opening_words (Unreported rate ago) = codes "sent; the subscriber doesn't report, last report: "
+opening_words (OnlyListens rate ago) = codes "sent; the subscriber only listens"
+opening_words (Unreported rate ago) = codes "sent; the subscriber doesn't report"
 
+-- how long ago the last came
 abbrev pub ago_words : ℕ → List ℕ
-ago_words ago = codes ", last: " ++ (decimal ago ++ codes " ms ago")
+ago_words ago = codes ", the last " ++ (decimal ago ++ codes " ms ago")
 
 -- under which SSRC packets come, and how long ago the last did
 abbrev pub source_words : Ssrc → ℕ → List ℕ
@@ -42,10 +43,15 @@ source_words source ago = decimal source.0 ++ ago_words ago
 abbrev pub place_words : SocketAddr → ℕ → List ℕ
 place_words address ago = socket_text address ++ ago_words ago
 
--- how long ago something was last
+-- the same, if one came
 abbrev pub last_words : Option ℕ → List ℕ
-last_words None = codes "never"
-last_words (Some ago) = decimal ago ++ codes " ms ago"
+last_words None = []
+last_words (Some ago) = ago_words ago
+
+-- how long ago an endpoint was heard
+abbrev pub heard_words : Option ℕ → List ℕ
+heard_words None = codes ", never heard"
+heard_words (Some ago) = codes ", heard " ++ (decimal ago ++ codes " ms ago")
 
 -- how much is sent
 abbrev pub rate_words : ℕ → List ℕ
@@ -55,12 +61,12 @@ abbrev pub detail_words : Reason → List ℕ
 detail_words Off = []
 detail_words (OtherSource source ago) = source_words source ago
 detail_words (OtherPlace address ago) = place_words address ago
-detail_words (PublisherAbsent ago) = last_words ago
+detail_words (PublisherAbsent ago) = heard_words ago
 detail_words (NoMedia ago) = last_words ago
-detail_words (SubscriberAbsent ago) = last_words ago
+detail_words (SubscriberAbsent ago) = heard_words ago
 detail_words (Skipped rate) = decimal rate ++ codes " a second"
 detail_words (Reported rate report) = rate_words rate
-detail_words (OnlyListens rate ago) = last_words ago ++ rate_words rate
+detail_words (OnlyListens rate ago) = heard_words ago ++ rate_words rate
 detail_words (Unreported rate ago) = last_words ago ++ rate_words rate
 
 -- the line of a leg

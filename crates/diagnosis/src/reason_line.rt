@@ -2,7 +2,7 @@
 
 ghost use Rattle.std.specs.Prelude.{◌≡◌, ◌++◌, IfOk, OnOk};
 ghost use Rattle.std.specs.String.{string_bytes};
-ghost use Rattle.diagnosis.specs.ReasonLine.{detail_words, last_words, leg_words, line_of_reason, line_of_stray, lines_of_reason, opening_words, place_words, rate_words, reported_line, source_words};
+ghost use Rattle.diagnosis.specs.ReasonLine.{detail_words, heard_words, last_words, leg_words, line_of_reason, line_of_stray, lines_of_reason, opening_words, place_words, rate_words, reported_line, source_words};
 
 use crate::reasons::Reason;
 use crate::sightings::StraySource;
@@ -75,13 +75,13 @@ fn opening_words(reason: Reason) -> &'static str
         Reason::Off => "off",
         Reason::OtherSource(..) => "from the publisher's address packets come under SSRC ",
         Reason::OtherPlace(..) => "under the publisher's SSRC packets come from ",
-        Reason::PublisherAbsent(_) => "the publisher is absent, last heard: ",
-        Reason::NoMedia(_) => "the publisher sends no media, last packet: ",
-        Reason::SubscriberAbsent(_) => "the subscriber is absent, last heard: ",
+        Reason::PublisherAbsent(_) => "the publisher is absent",
+        Reason::NoMedia(_) => "the publisher sends no media",
+        Reason::SubscriberAbsent(_) => "the subscriber is absent",
         Reason::Skipped(_) => "packets come and are skipped: ",
         Reason::Reported(..) => "sent; the subscriber reports",
-        Reason::OnlyListens(..) => "sent; the subscriber only listens, last heard: ",
-        Reason::Unreported(..) => "sent; the subscriber doesn't report, last report: ",
+        Reason::OnlyListens(..) => "sent; the subscriber only listens",
+        Reason::Unreported(..) => "sent; the subscriber doesn't report",
     }
 }
 
@@ -94,12 +94,12 @@ fn push_detail(text: &mut String, reason: Reason) -> Result<(), AllocError>
         Reason::Off => Ok(()),
         Reason::OtherSource(source, ago_ms) => push_source(text, source, ago_ms),
         Reason::OtherPlace(address, ago_ms) => push_place(text, address, ago_ms),
-        Reason::PublisherAbsent(ago_ms) => push_last(text, ago_ms),
+        Reason::PublisherAbsent(ago_ms) => push_heard(text, ago_ms),
         Reason::NoMedia(ago_ms) => push_last(text, ago_ms),
-        Reason::SubscriberAbsent(ago_ms) => push_last(text, ago_ms),
+        Reason::SubscriberAbsent(ago_ms) => push_heard(text, ago_ms),
         Reason::Skipped(rate) => write!(text, "{rate} a second"),
         Reason::Reported(rate, _) => push_rate(text, rate),
-        Reason::OnlyListens(rate, ago_ms) => push_last_and_rate(text, rate, ago_ms),
+        Reason::OnlyListens(rate, ago_ms) => push_heard_and_rate(text, rate, ago_ms),
         Reason::Unreported(rate, ago_ms) => push_last_and_rate(text, rate, ago_ms),
     }
 }
@@ -109,7 +109,7 @@ fn push_source(text: &mut String, source: Ssrc, ago_ms: u64) -> Result<(), Alloc
     ensures { OnOk result
         (string_bytes text.new ≡ string_bytes text.old ++ source_words source ago_ms) }
 {
-    write!(text, "{}, last: {ago_ms} ms ago", source.0)
+    write!(text, "{}, the last {ago_ms} ms ago", source.0)
 }
 
 /// From which address packets come.
@@ -117,20 +117,39 @@ fn push_place(text: &mut String, address: SocketAddr, ago_ms: u64) -> Result<(),
     ensures { OnOk result
         (string_bytes text.new ≡ string_bytes text.old ++ place_words address ago_ms) }
 {
-    write!(text, "{address}, last: {ago_ms} ms ago")
+    write!(text, "{address}, the last {ago_ms} ms ago")
 }
 
-/// How long ago something was last.
+/// How long ago the last came, if one did.
 fn push_last(text: &mut String, ago_ms: Option<u64>) -> Result<(), AllocError>
     ensures { OnOk result (string_bytes text.new ≡ string_bytes text.old ++ last_words ago_ms) }
 {
     match ago_ms {
-        Some(ago_ms) => write!(text, "{ago_ms} ms ago"),
-        None => text.push_str("never"),
+        Some(ago_ms) => write!(text, ", the last {ago_ms} ms ago"),
+        None => Ok(()),
     }
 }
 
-/// How long ago something was last, and how much is sent.
+/// How long ago an endpoint was heard.
+fn push_heard(text: &mut String, ago_ms: Option<u64>) -> Result<(), AllocError>
+    ensures { OnOk result (string_bytes text.new ≡ string_bytes text.old ++ heard_words ago_ms) }
+{
+    match ago_ms {
+        Some(ago_ms) => write!(text, ", heard {ago_ms} ms ago"),
+        None => text.push_str(", never heard"),
+    }
+}
+
+/// How long ago an endpoint was heard, and how much is sent.
+fn push_heard_and_rate(text: &mut String, rate: u64, ago_ms: Option<u64>) -> Result<(), AllocError>
+    ensures { OnOk result (string_bytes text.new
+        ≡ string_bytes text.old ++ (heard_words ago_ms ++ rate_words rate)) }
+{
+    push_heard(text, ago_ms)?;
+    push_rate(text, rate)
+}
+
+/// How long ago the last came, and how much is sent.
 fn push_last_and_rate(text: &mut String, rate: u64, ago_ms: Option<u64>) -> Result<(), AllocError>
     ensures { OnOk result (string_bytes text.new
         ≡ string_bytes text.old ++ (last_words ago_ms ++ rate_words rate)) }
