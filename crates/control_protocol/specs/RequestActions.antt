@@ -1,5 +1,5 @@
 -- What a request leads to.
-use Rattle.std.specs.Prelude.{ℕ, Bool, nat_lt, if◌then◌else◌}
+use Rattle.std.specs.Prelude.{ℕ, Bool, nat_lt, Option, None, Some, if◌then◌else◌}
 use Rattle.ports.specs.declared.feed.Received.TheVariants as received
 use Rattle.ports.specs.declared.watch.Look.TheVariants.{Presence, Desk}
 use Rattle.control_protocol.specs.declared.answer.Refused.TheVariants.{Leg, Publisher, Recorded, Unrecorded}
@@ -8,9 +8,10 @@ use Rattle.control_protocol.specs.declared.request.Request.TheVariants.{Select, 
 use Rattle.control_protocol.specs.declared.request_action.RequestAction.{RequestAction}
 use Rattle.control_protocol.specs.declared.request_action.RequestAction.TheVariants.{Refuse, Do, Counts, Look, Legs, Metrics, Reports, Refusals, Strangers, Why, Record, EndRecord}
 
--- a leg that isn't there is refused
-abbrev pub why_action : ℕ → ℕ → RequestAction
-why_action leg legs = if nat_lt leg legs then Why leg else Refuse Leg
+-- of each leg, or of one; one that isn't there is refused
+abbrev pub why_action : Option ℕ → ℕ → RequestAction
+why_action None legs = Why None
+why_action (Some leg) legs = if nat_lt leg legs then Why (Some leg) else Refuse Leg
 
 -- of a room with so many legs and endpoints, which is being recorded or not: a selection or a stop comes to the unit as it was asked for; a
 -- leg or an endpoint that isn't there is refused; there is one record at a time

@@ -17,9 +17,10 @@ select_asked (leg ∷ (on ∷ [])) =
     option_and_then (λ l. option_map (λ b. Select l b) (switched on)) (number_under (2 ^ 16) leg)
 select_asked words = None
 
--- a leg
+-- nothing, or a leg
 abbrev pub why_asked : List (List ℕ) → Option Request
-why_asked (leg ∷ []) = option_map Why (number_under (2 ^ 16) leg)
+why_asked [] = Some (Why None)
+why_asked (leg ∷ []) = option_map (λ l. Why (Some l)) (number_under (2 ^ 16) leg)
 why_asked words = None
 
 -- a publisher

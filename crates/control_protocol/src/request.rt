@@ -29,8 +29,8 @@ pub enum Request {
     Record,
     /// `record off`: that ends, and so does a record in a file.
     EndRecord,
-    /// `why LEG`: why the leg's subscriber sees nothing, or what it is sent.
-    Why(u16),
+    /// `why LEG`: why the leg's subscriber sees nothing, or what it is sent; `why`: the same of each leg.
+    Why(Option<u16>),
     /// `show P`: what is announced to this publisher, with its certificate.
     Show(u16),
     /// `stop`: the unit ends.
@@ -105,12 +105,13 @@ fn recorded(words: &[&[u8]]) -> Option<Request>
     }
 }
 
-/// `LEG`.
+/// Nothing, or `LEG`.
 fn asked_why(words: &[&[u8]]) -> Option<Request>
     ensures { result ≡ why_asked (map (λ x. x.now) words.now) }
 {
     match words {
-        [leg] => Some(Request::Why(number_u16(leg)?)),
+        [] => Some(Request::Why(None)),
+        [leg] => Some(Request::Why(Some(number_u16(leg)?))),
         _ => None,
     }
 }

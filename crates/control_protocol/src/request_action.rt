@@ -1,6 +1,6 @@
 //! What a request leads to.
 
-ghost use Rattle.std.specs.Prelude.{◌≡◌};
+ghost use Rattle.std.specs.Prelude.{◌≡◌, Some};
 ghost use Rattle.control_protocol.specs.RequestActions.{action_for, why_action};
 
 use crate::answer::Refused;
@@ -28,8 +28,8 @@ pub enum RequestAction {
     Refusals,
     /// Who came last of those who are nobody is asked for.
     Strangers,
-    /// Why the subscriber of this leg sees nothing is asked for.
-    Why(u16),
+    /// Why the subscriber of this leg sees nothing is asked for, or, if it is `None`, of each leg.
+    Why(Option<u16>),
     /// A record begins, for who asked.
     Record,
     /// The record ends.
@@ -81,12 +81,21 @@ pub fn action_for(request: Request, legs: u16, endpoints: u16, is_recorded: bool
     }
 }
 
-/// What the question leads to why the subscriber of this leg sees nothing.
-fn why_action(leg: u16, legs: u16) -> RequestAction
+/// What the question leads to why the subscriber of this leg sees nothing, or of each.
+fn why_action(leg: Option<u16>, legs: u16) -> RequestAction
     ensures { result ≡ why_action leg legs }
 {
+    match leg {
+        Some(leg) => why_of_leg(leg, legs),
+        None => RequestAction::Why(None),
+    }
+}
+
+fn why_of_leg(leg: u16, legs: u16) -> RequestAction
+    ensures { result ≡ why_action (Some leg) legs }
+{
     if leg < legs {
-        RequestAction::Why(leg)
+        RequestAction::Why(Some(leg))
     } else {
         RequestAction::Refuse(Refused::Leg)
     }

@@ -85,8 +85,8 @@ enum OpenQuestion {
     Metrics,
     Reports,
     Refusals,
-    /// Why the subscriber of this leg sees nothing.
-    Why(u16),
+    /// Why the subscriber of this leg sees nothing, or of each.
+    Why(Option<u16>),
     /// The unit stops: nobody waits for an answer, and who is present is to be known.
     Stop,
 }
@@ -408,12 +408,31 @@ impl Steering {
         }
     }
 
-    /// The line that says why the subscriber of this leg sees nothing.
-    fn why_text(&self, leg: u16, traffic: &Traffic, moment: u64) -> Result<String, AllocError> {
+    /// The lines that say why the subscriber of this leg sees nothing, or of each.
+    fn why_text(
+        &self,
+        leg: Option<u16>,
+        traffic: &Traffic,
+        moment: u64,
+    ) -> Result<String, AllocError> {
+        let mut text = String::new(self.alloc);
+        for line in self.legs.iter() {
+            if leg.is_none() || leg == Some(line.leg) {
+                let lines = self.why_lines(*line, traffic, moment)?;
+                text.push_str(lines.as_str())?;
+            }
+        }
+        Ok(text)
+    }
+
+    /// The same of a leg.
+    fn why_lines(
+        &self,
+        line: LegLine,
+        traffic: &Traffic,
+        moment: u64,
+    ) -> Result<String, AllocError> {
         let (endpoints, present) = (self.endpoints.as_slice(), self.present.as_slice());
-        let Some(line) = self.legs.get(usize::from(leg)).copied() else {
-            return Ok(String::new(self.alloc));
-        };
         match self
             .diagnosing
             .reason(line, endpoints, present, traffic, moment)
