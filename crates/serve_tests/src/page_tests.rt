@@ -48,6 +48,7 @@ fn say(alloc: Global, said: &mut Said) -> Result<(), AllocError> {
     said.legs.extend_from_slice(LEGS)?;
     said.counts.extend_from_slice(COUNTS)?;
     said.reports.extend_from_slice(REPORTS)?;
+    said.why.extend_from_slice(b"leg 1 from 1 to 0: off\n")?;
     push_set(alloc, &mut said.sets, 1, b"")?;
     push_set(alloc, &mut said.sets, 0, SET)?;
     push_set(
@@ -68,6 +69,7 @@ fn nothing_said(alloc: Global) -> Said {
         legs: Vec::new(alloc),
         counts: Vec::new(alloc),
         reports: Vec::new(alloc),
+        why: Vec::new(alloc),
         sets: Vec::new(alloc),
     }
 }
@@ -147,7 +149,7 @@ fn tells(
 }
 
 /// A method, a path, and what is told.
-const PATHS: [(&[u8], &[u8], (u16, &str)); 7] = [
+const PATHS: [(&[u8], &[u8], (u16, &str)); 8] = [
     (b"GET", b"/metrics", (200, COUNTED)),
     (b"HEAD", b"/metrics", (200, COUNTED)),
     (b"POST", b"/metrics", (405, "plain method not allowed\n")),
@@ -155,6 +157,7 @@ const PATHS: [(&[u8], &[u8], (u16, &str)); 7] = [
     (b"GET", b"/metrics/", (404, "plain not found\n")),
     (b"GET", b"/../state.json", (404, "plain not found\n")),
     (b"GET", b"/state.json", (200, STATE)),
+    (b"GET", b"/why", (200, "plain leg 1 from 1 to 0: off\n")),
 ];
 
 /// What the unit said for `metrics`, as it is.

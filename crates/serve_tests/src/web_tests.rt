@@ -61,15 +61,17 @@ const ALL: &[&[u8]] = &[
     b"ok\n",
     b"present 1\nok\n",
     b"leg 0 from 0 to 1\nok\n",
+    b"leg 0 from 0 to 1: off\nok\n",
     b"live 2 030d4014\nok\n",
 ];
 
-/// The same of a unit that doesn't know what reports are.
+/// The same of a unit that knows neither what reports nor what reasons are.
 const ALL_BUT_REPORTS: &[&[u8]] = &[
     b"x 1\nok\n",
     b"0 ssrc 16\nok\n",
     b"ok\n",
     b"present 1\nok\n",
+    b"refused unknown\n",
     b"refused unknown\n",
     b"live 2 030d4014\nok\n",
 ];
@@ -92,6 +94,7 @@ fn write_said(text: &mut String, said: &Said) -> Result<(), Fail> {
         &said.legs,
         &said.counts,
         &said.reports,
+        &said.why,
     ] {
         text.push_str(str::from_utf8(part.as_slice()).or(Err("no text"))?)?;
         text.push_str("-\n")?;
@@ -117,7 +120,7 @@ fn fails_at(alloc: Global, answers: &'static [&'static [u8]], ends: bool, moment
     goes_on && matches!(inquiry.step(moment), Step::Failed)
 }
 
-/// All answers are heard, in pieces, that for the set of the one who is there, too; reports may be unknown. Who refuses, goes, or is silent for
+/// All answers are heard, in pieces, that for the set of the one who is there, too; reports and reasons may be unknown. Who refuses, goes, or is silent for
 /// five seconds, has said nothing.
 #[test]
 fn asks_question_by_question(rt: HostRuntime) -> Result<(), Fail> {
@@ -125,12 +128,12 @@ fn asks_question_by_question(rt: HostRuntime) -> Result<(), Fail> {
     same(
         &rt,
         &said_text(alloc, ALL)?.as_str(),
-        &"7\nx 1\n-\n0 ssrc 16\n-\n-\npresent 1\n-\nleg 0 from 0 to 1\n-\nset 0\n",
+        &"7\nx 1\n-\n0 ssrc 16\n-\n-\npresent 1\n-\nleg 0 from 0 to 1\n-\nleg 0 from 0 to 1: off\n-\nset 0\n",
     );
     same(
         &rt,
         &said_text(alloc, ALL_BUT_REPORTS)?.as_str(),
-        &"7\nx 1\n-\n0 ssrc 16\n-\n-\npresent 1\n-\n-\nset 0\n",
+        &"7\nx 1\n-\n0 ssrc 16\n-\n-\npresent 1\n-\n-\n-\nset 0\n",
     );
     assert!(rt; fails_at(alloc, &ALL[..2], false, 5_000));
     assert!(rt; fails_at(alloc, &[b"refused full\n"], false, 1));

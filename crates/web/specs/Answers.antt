@@ -10,7 +10,7 @@ use Rattle.web.specs.declared.answer.Kind.TheVariants as kind
 use Rattle.web.specs.declared.answer.Verdict.{Verdict}
 use Rattle.web.specs.declared.answer.Verdict.TheVariants as verdict
 use Rattle.web.specs.declared.answer.View.{View}
-use Rattle.web.specs.declared.answer.View.TheVariants.{Page, Metrics, State, Picture}
+use Rattle.web.specs.declared.answer.View.TheVariants.{Page, Metrics, State, Why, Picture}
 use Rattle.web.specs.declared.page.TheConstants.{PAGE_TEXT}
 use Rattle.web.specs.declared.said.Said.{Said}
 use Rattle.web.specs.State.{state_tokens}
@@ -35,6 +35,7 @@ place_of path =
     if bytes_eq path (codes "/") then asked.Shown Page
     else if bytes_eq path (codes "/metrics") then asked.Shown Metrics
     else if bytes_eq path (codes "/state.json") then asked.Shown State
+    else if bytes_eq path (codes "/why") then asked.Shown Why
     else picture_place (picture_number path)
 
 -- other methods are unallowed, whatever the path
@@ -80,7 +81,7 @@ abbrev pub IsPictureAnswer : ℕ → Said → Seen → Type 0
 IsPictureAnswer publisher said seen =
     IsPictured (media_in said.present.items publisher) (set_in said.sets.items publisher) seen
 
--- metrics are what the unit said, byte by byte
+-- metrics and reasons are what the unit said, byte by byte
 abbrev pub IsShown : View → Said → Seen → Type 0
 IsShown Page said seen = seen ≡ page_answer
 IsShown Metrics said seen =
@@ -90,6 +91,7 @@ IsShown State said seen = seen ≡ record {
   kind = kind.Json;
   body = print (state_tokens said);
 }
+IsShown Why said seen = seen ≡ plain_answer verdict.Fine said.why.items
 IsShown (Picture publisher) said seen = IsPictureAnswer publisher said seen
 
 -- of a unit that says nothing nothing is shown but the page
@@ -97,6 +99,7 @@ abbrev pub silent_answer : View → Seen
 silent_answer Page = page_answer
 silent_answer Metrics = plain_answer verdict.Silent (codes "the unit does not answer\n")
 silent_answer State = plain_answer verdict.Silent (codes "the unit does not answer\n")
+silent_answer Why = plain_answer verdict.Silent (codes "the unit does not answer\n")
 silent_answer (Picture publisher) = plain_answer verdict.Silent (codes "the unit does not answer\n")
 
 abbrev pub IsAnswer : Target → Option Said → Seen → Type 0

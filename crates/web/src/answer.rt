@@ -23,6 +23,8 @@ pub enum View {
     Metrics,
     /// `/state.json`: what the unit is like, for programs.
     State,
+    /// `/why`: why subscribers see nothing, in lines for people.
+    Why,
     /// `/publishers/N.svg`: the picture of the set that is announced to publisher N.
     Picture(u16),
 }
@@ -96,6 +98,8 @@ fn place_of(path: &[u8]) -> Target
         Target::Shown(View::Metrics)
     } else if is_word(path, b"/state.json") {
         Target::Shown(View::State)
+    } else if is_word(path, b"/why") {
+        Target::Shown(View::Why)
     } else {
         picture_of(path)
     }
@@ -143,6 +147,7 @@ fn silent(alloc: Global, view: View) -> Result<Answer, AllocError>
         View::Page => page(alloc),
         View::Metrics => plain(alloc, Verdict::Silent, UNANSWERED),
         View::State => plain(alloc, Verdict::Silent, UNANSWERED),
+        View::Why => plain(alloc, Verdict::Silent, UNANSWERED),
         View::Picture(_) => plain(alloc, Verdict::Silent, UNANSWERED),
     }
 }
@@ -163,6 +168,7 @@ fn shown(alloc: Global, view: View, said: &Said) -> Result<Answer, AllocError>
             kind: Kind::Json,
             body: state_text(alloc, said)?,
         }),
+        View::Why => plain(alloc, Verdict::Fine, said.why.as_slice()),
         View::Picture(publisher) => picture(alloc, publisher, said),
     }
 }

@@ -34,6 +34,8 @@ enum Question {
     Counts,
     /// What reports say: a unit may not know of it.
     Reports,
+    /// Why subscribers see nothing: a unit may not know of it.
+    Why,
     /// The set that is announced to this publisher.
     Set(u16),
 }
@@ -98,6 +100,7 @@ impl<S: Read + Write + Drop> Inquiry<S> {
                 legs: Vec::new(alloc),
                 counts: Vec::new(alloc),
                 reports: Vec::new(alloc),
+                why: Vec::new(alloc),
                 sets: Vec::new(alloc),
             },
             publishers: Vec::new(alloc),
@@ -140,9 +143,9 @@ impl<S: Read + Write + Drop> Inquiry<S> {
 
     /// How many questions were asked for what was said.
     pub fn asked(&self) -> usize
-        ensures { result ≡ min (vec_len self.now.said.sets + 5) (2 ^ 64 - 1) }
+        ensures { result ≡ min (vec_len self.now.said.sets + 6) (2 ^ 64 - 1) }
     {
-        self.said.sets.len().saturating_add(5)
+        self.said.sets.len().saturating_add(6)
     }
 
     /// Writes the question.
@@ -156,6 +159,7 @@ impl<S: Read + Write + Drop> Inquiry<S> {
             Question::Legs => self.say(b"legs\n"),
             Question::Counts => self.say(b"counts\n"),
             Question::Reports => self.say(b"reports\n"),
+            Question::Why => self.say(b"why\n"),
             Question::Set(publisher) => match format!(in self.alloc; "show {publisher}\n") {
                 Ok(line) => self.say(line.as_bytes()),
                 Err(_) => false,
@@ -193,7 +197,7 @@ impl<S: Read + Write + Drop> Inquiry<S> {
         }
     }
 
-    /// The question came to an end. A unit that doesn't know what reports are says no line of them, and is asked on.
+    /// The question came to an end. A unit that doesn't know what reports or reasons are says no line of them, and is asked on.
     fn take_reply(&mut self, reply: Reply) -> Step {
         match reply {
             Reply::Done => {
@@ -206,7 +210,7 @@ impl<S: Read + Write + Drop> Inquiry<S> {
     }
 
     fn pass_over(&mut self) -> Step {
-        if matches!(self.question, Question::Reports) {
+        if matches!(self.question, Question::Reports | Question::Why) {
             self.take_lines(0)
         } else {
             Step::Failed
@@ -240,6 +244,7 @@ impl<S: Read + Write + Drop> Inquiry<S> {
             Question::Legs => self.said.legs = text,
             Question::Counts => self.said.counts = text,
             Question::Reports => self.said.reports = text,
+            Question::Why => self.said.why = text,
             Question::Set(publisher) => {
                 return self
                     .said
@@ -272,7 +277,8 @@ impl<S: Read + Write + Drop> Inquiry<S> {
             Question::Present => Some(Question::Legs),
             Question::Legs => Some(Question::Counts),
             Question::Counts => Some(Question::Reports),
-            Question::Reports | Question::Set(_) => Some(Question::Set(self.publishers.pop()?)),
+            Question::Reports => Some(Question::Why),
+            Question::Why | Question::Set(_) => Some(Question::Set(self.publishers.pop()?)),
         }
     }
 }

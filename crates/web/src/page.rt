@@ -71,6 +71,9 @@ th:first-child, td:first-child { position: sticky; left: 0; background: var(--ca
 .mark { display: inline-block; width: .75rem; height: .75rem; border: 2px solid currentcolor; border-radius: 50%; vertical-align: -.05rem; forced-color-adjust: none; }
 .mark.on { background: currentcolor; }
 #matrix, #gallery { margin-top: .6rem; }
+#trouble { border-color: var(--bad); }
+#trouble h2 { color: var(--bad); }
+#troubles { margin: 0; padding-left: 1.2rem; overflow-wrap: anywhere; }
 #gallery { display: grid; grid-template-columns: repeat(auto-fill, minmax(min(24rem, 100%), 1fr)); gap: .8rem; }
 #gallery a { display: block; border: 1px solid var(--line); border-radius: .4rem; overflow: hidden; }
 #gallery img { display: block; width: 100%; height: auto; }
@@ -106,8 +109,9 @@ footer { margin-top: 1rem; }
 <button id="pause" type="button" aria-pressed="false" hidden>Pause</button>
 </header>
 <noscript><p>This page needs its script. The same stands in <a href="/state.json">/state.json</a> for programs and, as counts, in
-<a href="/metrics">/metrics</a> for Prometheus.</p></noscript>
+<a href="/metrics">/metrics</a> for Prometheus. <a href="/why">/why</a> says where nothing comes.</p></noscript>
 <main id="main" hidden>
+<section id="trouble" aria-labelledby="why" hidden><h2 id="why">Where nothing comes</h2><ul id="troubles"></ul></section>
 <section aria-labelledby="all"><h2 id="all">In all</h2><dl id="totals"></dl></section>
 <section aria-labelledby="who"><h2 id="who">Who is there</h2>
 <div class="wide" role="region" aria-labelledby="who" tabindex="0"><table class="cards" id="endpoints"></table></div></section>
@@ -122,7 +126,8 @@ footer { margin-top: 1rem; }
 <section aria-labelledby="sent"><h2 id="sent">What goes out on each leg</h2>
 <div class="wide" role="region" aria-labelledby="sent" tabindex="0"><table class="cards" id="legs"></table></div></section>
 </main>
-<footer>The same: <a href="/state.json">/state.json</a> for programs, <a href="/metrics">/metrics</a> for Prometheus. Curves begin when the page is
+<footer>The same: <a href="/state.json">/state.json</a> for programs, <a href="/metrics">/metrics</a> for Prometheus, <a href="/why">/why</a> for
+each leg. Curves begin when the page is
 opened, and show a minute.</footer>
 <script>
 'use strict';
@@ -346,6 +351,18 @@ const showGallery = async (senders, moment) => {
   drawing = false;
 };
 
+// The lines of legs on which nothing is sent, as many as are soon read.
+const TROUBLE = /^leg \d+ from \d+ to \d+: (?!sent;)/, MOST = 20;
+const showTroubles = text => {
+  const lines = text.split('\n').filter(it => TROUBLE.test(it));
+  const more = lines.length - MOST, list = at('troubles');
+  if (more > 0) lines.splice(MOST, more, `and ${count(more)} more`);
+  while (list.children.length > lines.length) list.lastElementChild.remove();
+  while (list.children.length < lines.length) make(list, 'li');
+  lines.forEach((line, place) => say(list.children[place], line));
+  at('trouble').hidden = lines.length === 0;
+};
+
 const show = state => {
   if (!takeIn(state)) return;
   const senders = state.endpoints.map(it => it.number).filter(n => state.legs.some(it => it.publisher === n));
@@ -377,6 +394,8 @@ const ask = async () => {
     else if (!answer.ok) tell(`The answer has status ${answer.status}`, 'bad');
     else {
       show(await answer.json());
+      const why = await fetch('/why', { signal: AbortSignal.timeout(PATIENCE_MS) });
+      showTroubles(why.ok ? await why.text() : '');
       say(at('when'), `last answer ${new Date().toLocaleTimeString()}`);
       tell('The unit answers', 'on');
       return true;

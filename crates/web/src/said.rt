@@ -17,6 +17,8 @@ pub struct Said {
     pub counts: Vec<u8>,
     /// Its lines for `reports`; none if it knows no such request.
     pub reports: Vec<u8>,
+    /// Its lines for `why`; none if it knows no such request.
+    pub why: Vec<u8>,
     /// The sets that it announces.
     pub sets: Vec<AnnouncedSet>,
 }
