@@ -5,7 +5,7 @@ use crate::sightings::Sighting;
 use stats::ReceptionReport;
 
 /// What is known of an endpoint. Moments are in milliseconds.
-#[derive(Clone, Copy, PartialEq, Eq)]
+#[derive(Clone, Copy)]
 pub struct EndpointFacts {
     pub is_present: bool,
     /// Whether it is present whatever it says (`receive_only`).
@@ -16,7 +16,7 @@ pub struct EndpointFacts {
 }
 
 /// What is known of a leg at a moment.
-#[derive(Clone, Copy, PartialEq, Eq)]
+#[derive(Clone, Copy)]
 pub struct LegFacts {
     /// The moment, in milliseconds.
     pub moment: u64,

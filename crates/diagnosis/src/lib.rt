@@ -1,7 +1,7 @@
 //! Why a subscriber sees nothing, or what it is sent: decided on what is known of a leg, and told in a line.
 //!
-//! Read `facts` first, what is known of a leg; then `reasons`, what is said of it, and when. `sightings` is what was seen of an endpoint's media, `flow` how much went out
-//! of late. `reason_line` has the lines for people.
+//! Read `facts` first, what is known of a leg; then `reasons`, what is said of it, and when. `sightings` is what was seen of an endpoint's
+//! media, `flow` how much went out of late. `reason_line` has the lines for people.
 #![tactic(auto)]
 
 mod facts;

@@ -1,8 +1,9 @@
 //! Who looks at a unit that runs, steers it and records it.
 //!
 //! Read `run_status` first, what a run shows, and what peers want of it. `control_socket` is where a unit is steered, `steering` who does that,
-//! `diagnosing` what is known of a leg on which nothing comes (`diagnosis`), `steered` how they see the room. `record_file` opens what a record of the unit goes to (`recording`). `status_lines` are the lines of counts and of
-//! the control, and `lines` are written by a thread for which nobody waits, after the time of day (`operations`).
+//! `steered` how they see the room, `diagnosing` what is known of why nothing comes on a leg (`diagnosis`). `record_file` opens what a record of the
+//! unit goes to (`recording`). `status_lines` are the lines of counts and of the control, and `lines` are written by a thread for which nobody
+//! waits, after the time of day (`operations`).
 #![tactic(auto)]
 
 mod control_socket;

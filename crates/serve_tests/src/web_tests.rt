@@ -120,8 +120,8 @@ fn fails_at(alloc: Global, answers: &'static [&'static [u8]], ends: bool, moment
     goes_on && matches!(inquiry.step(moment), Step::Failed)
 }
 
-/// All answers are heard, in pieces, that for the set of the one who is there, too; reports and reasons may be unknown. Who refuses, goes, or is silent for
-/// five seconds, has said nothing.
+/// All answers are heard, in pieces, that for the set of the one who is there, too; reports and reasons may be unknown. Who refuses, goes, or is
+/// silent for five seconds, has said nothing.
 #[test]
 fn asks_question_by_question(rt: HostRuntime) -> Result<(), Fail> {
     let alloc = rt.alloc();
