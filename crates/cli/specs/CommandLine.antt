@@ -107,7 +107,8 @@ recorded_app = with_rule
     (moment_rule (codes "record-limit") 1)
 
 abbrev pub serve_app : App
-serve_app = with_rule recorded_app (flag_rule (codes "log-time"))
+serve_app =
+    with_rule (with_rule recorded_app (word_rule (codes "numbers"))) (flag_rule (codes "log-time"))
 
 abbrev pub ask_app : App
 ask_app = with_rule (with_rule (new_app (codes "ask")) (required_rule (codes "PATH"))) (words_rule (codes "WORD"))
@@ -155,7 +156,8 @@ pub data Request : Type 0 where
   bound : ℕ → Request
   check : Text → Request
   replay : Text → Option ℕ → Option ℕ → Option ℕ → Bool → Request
-  serve : Text → Option ℕ → Option ℕ → Option Text → Option (Text × Option ℕ) → Bool → Request
+  serve : Text → Option ℕ → Option ℕ → Option Text → Option (Text × Option ℕ) → Bool → Option Text
+      → Request
   draw : ℕ → Request
   version : Request
   ask : Text → List Text → Request
@@ -175,8 +177,9 @@ offline_request offline.Version = version
 abbrev pub action_request : Action → Request
 action_request (action.Offline what) = offline_request what
 action_request (action.Replay file leg endpoint from events) = replay file.now leg endpoint from events
-action_request (action.Serve file ticks status control recorded log_time) =
+action_request (action.Serve file ticks status control recorded log_time numbers) =
     serve file.now ticks status (option_map (λ path. path.now) control) (option_map record_of recorded) log_time
+    (option_map (λ path. path.now) numbers)
 action_request (action.Ask path words) = ask path.now (map (λ word. word.now) words.items)
 action_request (action.Page path address anyone host) =
     page path.now address.now anyone (option_map (λ name. name.now) host)
@@ -220,7 +223,8 @@ abbrev pub serve_named : List Row → Option Request
 serve_named rows = option_and_then
     (λ recorded. option_map
     (λ file. serve file (number_in (codes "ticks") rows) (number_in (codes "status") rows)
-    (first_of (codes "control") rows) recorded (is_set (codes "log-time") rows))
+    (first_of (codes "control") rows) recorded (is_set (codes "log-time") rows)
+    (first_of (codes "numbers") rows))
     (first_of (codes "FILE") rows))
     (record_with (first_of (codes "record") rows) (moment_in (codes "record-limit") rows))
 
@@ -282,7 +286,7 @@ AsksOfUnit None = ⊥
 AsksOfUnit (Some (bound media)) = ⊥
 AsksOfUnit (Some (check file)) = ⊥
 AsksOfUnit (Some (replay file leg endpoint from events)) = ⊥
-AsksOfUnit (Some (serve file ticks status control recorded log_time)) = Unit {0}
+AsksOfUnit (Some (serve file ticks status control recorded log_time numbers)) = Unit {0}
 AsksOfUnit (Some (draw media)) = ⊥
 AsksOfUnit (Some version) = ⊥
 AsksOfUnit (Some (ask path words)) = Unit {0}

@@ -68,6 +68,9 @@ const RECORD_HELP: &str =
 
 const RECORD_LIMIT_HELP: &str = "Ends the record before it has more bytes: from 1 on";
 
+const NUMBERS_HELP: &str =
+    "Has legs begin beyond the numbers that are noted in this file, and notes theirs there";
+
 const LOG_TIME_HELP: &str = "Begins each line of counts with the time (UTC)";
 
 const PATH_HELP: &str = "The path at which the unit is steered (`sfu serve --control PATH`)";
@@ -178,7 +181,7 @@ fn replay_command<'a>(alloc: Global) -> Result<Command<'a>, AllocError>
     asking(replay, flag(alloc, "events", EVENTS_HELP))
 }
 
-/// `serve FILE`, with how many turns, what its lines of counts are, where it is steered, and how it is recorded.
+/// `serve FILE`, with how many turns, what its lines of counts are, where it is steered, how it is recorded, and where its numbers are noted.
 fn serve_command<'a>(alloc: Global) -> Result<Command<'a>, AllocError>
     ensures app { IfOk result (λ c. app_of c ≡ serve_app) }
     ensures local { IfOk result HasNoGlobals }
@@ -198,6 +201,7 @@ fn serve_command<'a>(alloc: Global) -> Result<Command<'a>, AllocError>
         serve,
         moment(alloc, "record-limit", "BYTES", RECORD_LIMIT_HELP, 1),
     );
+    let serve = asking(serve, optional_word(alloc, "numbers", "PATH", NUMBERS_HELP));
     asking(serve, flag(alloc, "log-time", LOG_TIME_HELP))
 }
 

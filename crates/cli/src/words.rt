@@ -25,7 +25,8 @@ pub enum Action<'a> {
         events: bool,
     },
     /// `sfu serve FILE`: the unit on a socket, by the file's settings, for so many turns, or until it is stopped. With a line of counts each so
-    /// many seconds, which begins with the time, or without; steered at a path, or not; recorded, or not.
+    /// many seconds, which begins with the time, or without; steered at a path, or not; recorded, or not; with the numbers of its legs noted at
+    /// a path, or not.
     Serve {
         file: &'a str,
         ticks: Option<u32>,
@@ -33,6 +34,7 @@ pub enum Action<'a> {
         control: Option<&'a str>,
         record: Option<Record<'a>>,
         log_time: bool,
+        numbers: Option<&'a str>,
     },
     /// `sfu ask PATH WORD..`: what the unit answers that is steered at the path.
     Ask {
@@ -216,6 +218,7 @@ fn serve_named<'a>(matches: &ArgMatches<'a>) -> Option<Action<'a>>
         control: matches.get_str("control"),
         record,
         log_time: is_set(matches, "log-time"),
+        numbers: matches.get_str("numbers"),
     })
 }
 

@@ -1,11 +1,15 @@
 -- How commands end.
-use Rattle.std.proofs.Common.{◌≡◌, ◌≢◌, ◌∙◌, ℕ, Bool, List, Option, Some, subst, sym, unwrap_or}
+use Rattle.std.proofs.Common.{◌≡◌, ◌≢◌, ◌∙◌, ℕ, Bool, List, None, Option, Some, inl, inr, refl, subst, sym, unwrap_or}
 use Rattle.std.proofs.KnownBytes.{Keeps-refl}
+use Rattle.std.specs.Io.KnownBytes.{Appends}
 use Rattle.cli.specs.CommandLine.{AsksOfUnit, Request, ask, bound, check, draw, offline_request, page, plan, replay, sdp, serve, version}
 use Rattle.cli.specs.Ends.{EndsOffline}
 use Rattle.cli.specs.declared.words.Offline.{Offline}
 use Rattle.cli.specs.declared.words.Offline.TheVariants as offline
-use Rattle.commands.specs.Commands.{Ends, EndsUnit}
+use Rattle.commands.specs.Commands.{Ends, EndsNumbered, EndsUnit}
+use Rattle.commands.specs.Numbers.{numbers_notice}
+use Rattle.leg_numbers.specs.declared.file.NumbersFault.{NumbersFault}
+use Rattle.leg_numbers.specs.declared.file.NumbersFault.TheVariants.{NoMemory}
 use Rattle.cli.specs.Statuses.{SaysWhy}
 use Rattle.cli.specs.declared.status.Status.{Status}
 use Rattle.cli.specs.declared.status.Status.TheVariants as status
@@ -40,6 +44,20 @@ unit_undone ticks printed errors_old errors_new s fails says = record {
   said = says_alone errors_old errors_new s fails says;
 }
 
+-- nothing was said of numbers
+pub ends_unnumbered : (numbers : Option (List ℕ)) (ticks : Option ℕ) (old new errors_old errors_new : Option (List ℕ)) (s : Status)
+    → EndsUnit ticks old new errors_old errors_new s → EndsNumbered numbers ticks old new errors_old errors_new s
+ends_unnumbered numbers ticks old new errors_old errors_new s ends =
+    record { said = errors_old; of_numbers = record { unasked = λ _. refl; notice = inl refl }; ends = ends }
+
+-- this was said of the file of numbers, and then a unit was served
+pub ends_noticed : (path : List ℕ) (numbers : Option (List ℕ)) (fault : NumbersFault) (ticks : Option ℕ) (old new errors_old said errors_new : Option (List ℕ)) (s : Status)
+    → numbers ≡ Some path → fault ≢ NoMemory → Appends errors_old said (numbers_notice fault) → EndsUnit ticks old new said errors_new s
+    → EndsNumbered numbers ticks old new errors_old errors_new s
+ends_noticed path numbers fault ticks old new errors_old said errors_new s asked lacks noticed ends =
+    let is_asked : numbers ≡ None → said ≡ errors_old = λ none. absurd cc in
+    record { said = said; of_numbers = record { unasked = is_asked; notice = inr (fault, lacks, noticed) }; ends = ends }
+
 -- the words couldn't be read, whatever they ask for
 pub unread : (asked : Request) (input printed errors_old errors_new : Option (List ℕ)) (s : Status) → s ≢ status.Done → s ≢ status.Refused → s ≢ status.Settings
     → s ≢ status.Control → SaysWhy errors_old errors_new s → Ends asked input printed printed errors_old errors_new s
@@ -49,7 +67,8 @@ unread (check file) input printed errors_old errors_new s fails read set_up hear
     record { done = λ is. absurd (fails is); refused = λ is. absurd (read is) }
 unread (replay file leg endpoint from events) input printed errors_old errors_new s fails read set_up heard says =
     record { done = λ is. absurd (fails is); refused = λ is. absurd (read is) }
-unread (serve file ticks seconds control recorded log_time) input printed errors_old errors_new s fails read set_up heard says = unit_undone ticks printed errors_old errors_new s fails says
+unread (serve file ticks seconds control recorded log_time numbers) input printed errors_old errors_new s fails read set_up heard says =
+    ends_unnumbered numbers ticks printed printed errors_old errors_new s (unit_undone ticks printed errors_old errors_new s fails says)
 unread (draw media) input printed errors_old errors_new s fails read set_up heard says =
     record { done = λ is. absurd (fails is); refused = λ is. absurd (read is) }
 unread version input printed errors_old errors_new s fails read set_up heard says = record { done = λ is. absurd (fails is); read = read }

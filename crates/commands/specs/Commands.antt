@@ -8,6 +8,7 @@ use Rattle.cli.specs.declared.status.Status.TheVariants as status
 use Rattle.cli.specs.Statuses.{SaysWhy}
 use Rattle.cli.specs.Ends.{EndsBound, EndsCheck, EndsDraw, EndsVersion}
 use Rattle.replay.specs.ByFile.{EndsReplay, shown_by}
+use Rattle.commands.specs.Numbers.{SaysOfNumbers}
 use Rattle.commands.specs.Planned.{PrintsPlan}
 use Rattle.serving.specs.ReportText.{PrintsReport}
 use Rattle.serving.specs.Serving.{SaysWhyServing, turns_by}
@@ -24,6 +25,15 @@ pub record EndsUnit (ticks : Option ℕ) (old new errors_old errors_new : Option
   pub failed : s ≡ status.Socket → Keeps old new
   -- however it ends, where it listened is said, if it came so far, and after that what any other command says
   pub said : SaysWhyServing errors_old errors_new s
+
+-- How `sfu serve` ends, with `--numbers PATH` or without.
+pub record EndsNumbered (numbers : Option (List ℕ)) (ticks : Option ℕ)
+    (old new errors_old errors_new : Option (List ℕ)) (s : Status) : Type 0 where
+  -- what the error output has once the file of numbers was looked at
+  pub said : Option (List ℕ)
+  pub of_numbers : SaysOfNumbers numbers errors_old said
+  -- after that a unit is served
+  pub ends : EndsUnit ticks old new said errors_new s
 
 -- How `sfu ask` ends.
 pub record EndsAsk (old new errors_old errors_new : Option (List ℕ)) (s : Status) : Type 0 where
@@ -60,8 +70,8 @@ Ends (bound media) input old new errors_old errors_new s =
 Ends (check file) input old new errors_old errors_new s = EndsCheck old new errors_old errors_new s
 Ends (replay file leg endpoint from events) input old new errors_old errors_new s =
     EndsReplay (shown_by leg endpoint from events) input old new errors_old errors_new s
-Ends (serve file ticks status control recorded log_time) input old new errors_old errors_new s =
-    EndsUnit ticks old new errors_old errors_new s
+Ends (serve file ticks status control recorded log_time numbers) input old new errors_old errors_new s =
+    EndsNumbered numbers ticks old new errors_old errors_new s
 Ends (draw media) input old new errors_old errors_new s =
     EndsDraw media input old new errors_old errors_new s
 Ends version input old new errors_old errors_new s = EndsVersion old new s

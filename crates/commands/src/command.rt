@@ -1,24 +1,25 @@
 //! The commands of the program, over a reader and writers.
 
-ghost use Rattle.std.specs.Prelude.{◌≡◌, ◌≢◌, map, codes};
+ghost use Rattle.std.specs.Prelude.{◌≡◌, ◌≢◌, map, codes, option_map};
 ghost use Rattle.std.specs.Io.KnownBytes.{Appends, Keeps};
-ghost use Rattle.commands.specs.Commands.{EndsCommand, EndsUnit};
+ghost use Rattle.commands.specs.Commands.{EndsCommand, EndsNumbered, EndsUnit};
 ghost use Rattle.cli.specs.Statuses.{SaysWhy};
 ghost use Rattle.settings_toml.specs.SettingsText.{SaysProblem};
 
 use crate::ask::run_ask;
 use crate::description::run_sdp;
+use crate::numbers::{begin_numbers, numbers_notice};
 use crate::plan::run_settings;
 use crate::served::{ServedFile, served_in};
 use cli::{
     Action, Record, Status, read_words, refuse_words, report_settings, run_offline, say,
-    say_no_memory,
+    say_no_memory, unsaid,
 };
 use replay::{Shown, run_replay};
 use request_text::Meter;
 use serving::{
-    ControlFault, ErrorOutput, RECORD_LIMIT, RecordFault, RunStatus, Term, close_control,
-    close_record, open_control, open_record, serve_file,
+    ControlFault, ErrorOutput, NumberKeeper, NumbersFault, RECORD_LIMIT, RecordFault, RunStatus,
+    Term, close_control, close_record, open_control, open_record, serve_file,
 };
 use std::convert::AsStr;
 use std::fs::File;
@@ -31,12 +32,13 @@ use std::thread::Threads;
 use std::time;
 use web::run_page;
 
-/// Where a unit is steered and recorded, and whether its lines of counts begin with the time.
+/// Where a unit is steered and recorded, and where its numbers are noted; and whether its lines of counts begin with the time.
 #[derive(Clone, Copy)]
 struct Paths<'a> {
     control: Option<&'a str>,
     record: Option<Record<'a>>,
     log_time: bool,
+    numbers: Option<&'a str>,
 }
 
 /// Runs the command that the words ask for, of which the first is the program's name.
@@ -110,12 +112,14 @@ pub fn run_metered<
                 control,
                 record,
                 log_time,
+                numbers,
             },
         ) => {
             let paths = Paths {
                 control,
                 record,
                 log_time,
+                numbers,
             };
             run_serve(rt, file, Term { ticks, status }, paths, writer, errors)
         }
@@ -142,25 +146,61 @@ fn run_serve<
     O: Write,
     E: Write,
 >(rt: &R, file: &str, term: Term, paths: Paths<'_>, writer: &mut O, errors: &mut E) -> Status
-    ensures ends { EndsUnit term.ticks (O.contents writer.old) (O.contents writer.new)
-        (E.contents errors.old) (E.contents errors.new) result }
+    ensures ends { EndsNumbered (option_map (λ path. path.now) paths.entry.numbers) term.ticks
+        (O.contents writer.old) (O.contents writer.new) (E.contents errors.old)
+        (E.contents errors.new) result }
     ensures settings { result ≡ Status.Settings
         → Keeps (O.contents writer.old) (O.contents writer.new)
         × SaysProblem (E.contents errors.old) (E.contents errors.new) }
     ensures understood { (result ≢ Status.CommandLine) × (result ≢ Status.Refused) }
 {
     match served_in(rt, file) {
-        Ok(file) => serve_steered(rt, &file, term, paths, writer, errors),
+        Ok(file) => serve_numbered(rt, file, term, paths, writer, errors),
         Err(problem) => report_settings(rt.alloc(), errors, &problem),
     }
 }
 
-/// Serves the endpoints, and does what is asked at the path of `--control`, if there is one.
+/// Serves the endpoints. If numbers are noted at a path, legs begin beyond those, and theirs are noted there. A file that isn't used is said.
+fn serve_numbered<
+    R: AllocGlobal + ErrorOutput + Files<File = File> + Net + Threads + Wait + Sync + time::Clock,
+    O: Write,
+    E: Write,
+>(rt: &R, file: ServedFile, term: Term, paths: Paths<'_>, writer: &mut O, errors: &mut E) -> Status
+    ensures ends { EndsNumbered (option_map (λ path. path.now) paths.entry.numbers) term.ticks
+        (O.contents writer.old) (O.contents writer.new) (E.contents errors.old)
+        (E.contents errors.new) result }
+    ensures understood { (result ≢ Status.CommandLine) × (result ≢ Status.Refused)
+        × (result ≢ Status.Settings) }
+{
+    let mut file = file;
+    let Some(path) = paths.numbers else {
+        return serve_steered(rt, &file, None, term, paths, writer, errors);
+    };
+    match begin_numbers(rt, path, &mut file) {
+        Ok(keeper) => serve_steered(rt, &file, Some(keeper), term, paths, writer, errors),
+        Err(NumbersFault::NoMemory) => say_no_memory(errors),
+        Err(fault) => match errors.write_all(numbers_notice(fault).as_bytes()) {
+            Ok(()) => serve_steered(rt, &file, None, term, paths, writer, errors),
+            Err(error) => unsaid(&error),
+        },
+    }
+}
+
+/// Serves the endpoints, and does what is asked at the path of `--control`, if there is one. This keeper notes the legs' numbers, if they
+/// are to be noted.
 fn serve_steered<
     R: AllocGlobal + ErrorOutput + Files<File = File> + Net + Threads + Wait + Sync + time::Clock,
     O: Write,
     E: Write,
->(rt: &R, file: &ServedFile, term: Term, paths: Paths<'_>, writer: &mut O, errors: &mut E) -> Status
+>(
+    rt: &R,
+    file: &ServedFile,
+    keeper: Option<NumberKeeper>,
+    term: Term,
+    paths: Paths<'_>,
+    writer: &mut O,
+    errors: &mut E,
+) -> Status
     ensures ends { EndsUnit term.ticks (O.contents writer.old) (O.contents writer.new)
         (E.contents errors.old) (E.contents errors.new) result }
     ensures understood { (result ≢ Status.CommandLine) × (result ≢ Status.Refused)
@@ -168,6 +208,7 @@ fn serve_steered<
 {
     match gauges_for(rt, file, paths.control) {
         Ok(mut run_status) => {
+            set_kept(&mut run_status, keeper);
             let status = serve_recorded(rt, file, term, paths, &mut run_status, writer, errors);
             close_record(rt, run_status);
             close_control_at(rt, paths.control);
@@ -212,9 +253,17 @@ fn set_noted<R: AllocGlobal + Files<File = File> + Net + Threads + time::Clock>(
     run_status.log_time.set(paths.log_time);
     if let Some(Record { path, limit }) = paths.record {
         let limit = limit.unwrap_or(RECORD_LIMIT);
-        run_status.set_recorder(open_record(rt, path, limit, file.digest.as_slice())?);
+        let (digest, first) = (file.digest.as_slice(), file.first.as_slice());
+        run_status.set_recorder(open_record(rt, path, limit, digest, first)?);
     }
     Ok(())
+}
+
+/// The numbers of the run's legs are noted, if anybody does that.
+fn set_kept(run_status: &mut RunStatus, keeper: Option<NumberKeeper>) {
+    if let Some(keeper) = keeper {
+        run_status.keep_numbers(keeper);
+    }
 }
 
 /// What a run shows that is steered at the path, if there is one.
@@ -224,7 +273,10 @@ fn gauges_for<R: AllocGlobal + Files + Net + Threads + time::Clock>(
     control: Option<&str>,
 ) -> Result<RunStatus, ControlFault> {
     match control {
-        Some(path) => open_control(rt, path, &file.settings, file.digest.as_slice()),
+        Some(path) => {
+            let (digest, first) = (file.digest.as_slice(), file.first.as_slice());
+            open_control(rt, path, &file.settings, digest, first)
+        }
         None => Ok(RunStatus::new()),
     }
 }

@@ -1,7 +1,7 @@
 //! The commands of `sfu`: the words that ask for them, and what each does with which file.
 //!
 //! Read `command` first, `run_command`, which the program calls as `run_metered`. Then `ask` and `ask_record`, which are `sfu ask` (over a
-//! `connection`), `description`, `sfu sdp`, and `plan`, `sfu settings`, by the settings that `served` reads. `explaining` says to people what was wrong. The words, the
+//! `connection`), `description`, `sfu sdp`, and `plan`, `sfu settings`, by the settings that `served` reads. `numbers` are those with which legs begin after a start. `explaining` says to people what was wrong. The words, the
 //! commands that need no unit, and how a command ends are `cli`; `sfu replay` is `replay`, `sfu serve` `serving`, `sfu page` `web`. What callers
 //! need of these is handed on.
 #![tactic(auto)]
@@ -12,6 +12,7 @@ mod command;
 mod connection;
 mod description;
 mod explaining;
+mod numbers;
 mod plan;
 mod served;
 

@@ -1,22 +1,44 @@
 //! The settings of a unit, with all addresses, and what its record says of them.
 
-ghost use Rattle.std.specs.Prelude.{IfOk};
+ghost use Rattle.std.specs.Prelude.{◌≡◌, IfOk, OnOk};
 ghost use Rattle.commands.specs.Planned.{AreOfText};
+ghost use Rattle.settings_toml.specs.Begun.{BeginsWith};
 
 use replay::unreadable_settings;
 use serving::{ServedSettings, read_served};
-use settings_toml::SettingsProblem;
+use settings_toml::{SettingsProblem, read_begun};
 use sha2::{Digest, Sha256};
 use std::alloc::Global;
 use std::fs;
 use std::io::Read;
 use std::rt::Files;
 
-/// The settings of a file, and the SHA-256 of its bytes.
+/// The settings of a file, its bytes and their SHA-256.
 #[derive(Drop)]
 pub(crate) struct ServedFile {
     pub(crate) settings: ServedSettings,
     pub(crate) digest: [u8; 32],
+    /// With which number each leg begins, by the leg's own number, if not as the file says; else none.
+    pub(crate) first: Vec<u16>,
+    text: Vec<u8>,
+}
+
+impl ServedFile {
+    /// Has the legs begin with these numbers, by the legs' own numbers. A refusal, for want of memory, leaves the settings as they are.
+    pub(crate) fn begin_with(
+        &mut self,
+        alloc: Global,
+        first: Vec<u16>,
+    ) -> Result<(), SettingsProblem>
+        ensures begins { OnOk result
+            (BeginsWith self.old.text.items first.items self.new.settings.settings) }
+        ensures first { OnOk result (self.new.first ≡ first) }
+    {
+        let settings = read_begun(alloc, self.text.as_slice(), first.as_slice())?;
+        self.settings.settings = settings;
+        self.first = first;
+        Ok(())
+    }
 }
 
 /// The settings that a file holds, with all addresses.
@@ -41,6 +63,8 @@ fn served_from<I: Read>(alloc: Global, file: &mut I) -> Result<ServedFile, Setti
         Ok(_) => Ok(ServedFile {
             settings: read_served(alloc, text.as_slice())?,
             digest: Sha256::digest(text.as_slice()),
+            first: Vec::new(alloc),
+            text,
         }),
         Err(error) => Err(unreadable_settings(&error)),
     }

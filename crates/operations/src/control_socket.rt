@@ -22,13 +22,14 @@ use std::time;
 /// Only its owner may connect to the socket.
 const MODE: u32 = 0o600;
 
-/// Listens at the path, for a unit of these settings, which come from a file with this SHA-256. A socket file that a dead unit left is
-/// replaced.
+/// Listens at the path, for a unit of these settings, which come from a file with this SHA-256, but for these first numbers of its legs, if
+/// there are any. A socket file that a dead unit left is replaced.
 pub fn open_control<R: AllocGlobal + Files + Net + Threads + time::Clock>(
     rt: &R,
     path: &str,
     file: &ServedSettings,
     digest: &[u8],
+    first: &[u16],
 ) -> Result<RunStatus, ControlFault>
     ensures steered { IfOk result (λ run_status. IsSome run_status.steering) }
     ensures recorder { IfOk result (λ run_status. IsSome run_status.recorder) }
@@ -40,7 +41,7 @@ pub fn open_control<R: AllocGlobal + Files + Net + Threads + time::Clock>(
     let Ok(legs) = legs_of(rt.alloc(), &file.settings) else {
         return Err(ControlFault::NoMemory);
     };
-    let recorder = idle_record(rt, digest)?;
+    let recorder = idle_record(rt, digest, first)?;
     match Steering::new(rt.alloc(), listener, legs, endpoints) {
         Ok(steering) => Ok(RunStatus::steered(steering, recorder)),
         Err(_) => Err(ControlFault::NoMemory),

@@ -2,13 +2,14 @@
 //!
 //! Read `run_status` first, what a run shows, and what peers want of it. `control_socket` is where a unit is steered, `steering` who does that,
 //! `steered` how they see the room, `diagnosing` what is known of why nothing comes on a leg (`diagnosis`). `record_file` opens what a record of the
-//! unit goes to (`recording`). `status_lines` are the lines of counts and of the control, and `lines` are written by a thread for which nobody
-//! waits, after the time of day (`operations`).
+//! unit goes to (`recording`). `number_keeper` notes with which numbers legs begin after the next start (`leg_numbers`). `status_lines` are the
+//! lines of counts and of the control, and `lines` are written by a thread for which nobody waits, after the time of day (`wall_time`).
 #![tactic(auto)]
 
 mod control_socket;
 mod diagnosing;
 mod lines;
+mod number_keeper;
 mod record_file;
 mod run_status;
 mod status_lines;
@@ -17,7 +18,9 @@ mod steering;
 mod wall_time;
 
 pub use control_socket::{close_control, open_control};
+pub use leg_numbers::NumbersFault;
 pub use lines::{ErrorOutput, Lines, TimedLines};
+pub use number_keeper::{NumberKeeper, open_numbers};
 pub use record_file::{close_record, open_record};
 pub use recording::{
     ControlFault, Origin, RECORD_LIMIT, RecordFault, Recorder, Taken, WriterFault,

@@ -5,6 +5,7 @@ use recording::{Outlet, WriterFault, start_writer};
 use std::alloc::{AllocError, Global};
 use std::io::{self, ErrorKind, Stderr, Write};
 use std::net::Net;
+use std::rt::Files;
 use std::thread::{self, Threads};
 use std::time::{self, Duration, SystemTime};
 
@@ -16,19 +17,28 @@ const LAST_LOOKS: u32 = 100;
 
 const LOOK_MS: u64 = 2;
 
-/// A runtime whose error output any thread may write to.
+/// A runtime whose error output any thread may write to, and whose files any thread may replace.
 pub trait ErrorOutput {
     type Output: Write + Send + Drop + 'static;
+    type Disk: Files + Send + Drop + 'static;
 
     /// The error output.
     fn error_output(&self) -> Self::Output;
+
+    /// The files.
+    fn disk(&self) -> Self::Disk;
 }
 
 impl ErrorOutput for HostRuntime {
     type Output = Stderr;
+    type Disk = HostRuntime;
 
     fn error_output(&self) -> Stderr {
         self.stderr()
+    }
+
+    fn disk(&self) -> HostRuntime {
+        *self
     }
 }
 

@@ -25,17 +25,18 @@ const BLOCKS: usize = 256;
 const VERSION: &str = "1.0.0";
 
 /// Makes a file at the path, which isn't there yet, and records there what a unit takes in, at most so many bytes. The settings that the
-/// unit has come from a file with this SHA-256.
+/// unit has come from a file with this SHA-256, but for these first numbers of its legs, if there are any.
 pub fn open_record<R: AllocGlobal + Files<File = File> + Net + Threads + time::Clock>(
     rt: &R,
     path: &str,
     limit: u64,
     settings: &[u8],
+    first: &[u16],
 ) -> Result<Recorder, RecordFault>
     ensures begun { IfOk result (λ r. (r.has_begun ≡ true) × (r.is_open ≡ true)) }
-    ensures head { IfOk result (λ r. BeginsRecord limit settings.now r.tape) }
+    ensures head { IfOk result (λ r. BeginsRecord limit settings.now first.now r.tape) }
 {
-    let head = head_of(rt, settings)?;
+    let head = head_of(rt, settings, first)?;
     let written = new_count(rt.alloc())?;
     let Ok(count) = written.shared() else {
         return Err(RecordFault::NoMemory);
@@ -47,14 +48,16 @@ pub fn open_record<R: AllocGlobal + Files<File = File> + Net + Threads + time::C
     Ok(recorder)
 }
 
-/// Waits until somebody wants what a unit takes in. The settings that the unit has come from a file with this SHA-256.
+/// Waits until somebody wants what a unit takes in. The settings that the unit has come from a file with this SHA-256, but for these first
+/// numbers of its legs, if there are any.
 pub(crate) fn idle_record<R: AllocGlobal + Net + Threads + time::Clock>(
     rt: &R,
     settings: &[u8],
+    first: &[u16],
 ) -> Result<Recorder, RecordFault>
     ensures { IfOk result (λ r. (r.has_begun ≡ false) × (r.is_open ≡ false)) }
 {
-    let head = head_of(rt, settings)?;
+    let head = head_of(rt, settings, first)?;
     let written = new_count(rt.alloc())?;
     let (outlet, thread) = start_writer(rt, BLOCKS, RecordTarget::Nobody)?;
     Ok(Recorder::new(rt.alloc(), head, written, outlet, thread))
@@ -69,13 +72,18 @@ fn new_count(alloc: Global) -> Result<Written, RecordFault> {
 }
 
 /// The head of a record of a unit that begins now.
-fn head_of<R: AllocGlobal + time::Clock>(rt: &R, settings: &[u8]) -> Result<String, RecordFault>
-    ensures { IfOk result (λ head. IsHead settings.now (string_bytes head)) }
+fn head_of<R: AllocGlobal + time::Clock>(
+    rt: &R,
+    settings: &[u8],
+    first: &[u16],
+) -> Result<String, RecordFault>
+    ensures { IfOk result (λ head. IsHead settings.now first.now (string_bytes head)) }
 {
     let header = Header {
         version: VERSION,
         settings,
         began_ms: unix_ms(rt),
+        first,
     };
     match header_text(rt.alloc(), &header) {
         Ok(head) => Ok(head),
@@ -83,7 +91,7 @@ fn head_of<R: AllocGlobal + time::Clock>(rt: &R, settings: &[u8]) -> Result<Stri
     }
 }
 
-/// Ends the record of a unit that has ended, once all of it is written.
+/// Ends the record of a unit that has ended, and the notes of its numbers, once all of it is written.
 pub fn close_record<R: Threads>(rt: &R, run_status: RunStatus) {
     run_status.finish(rt);
 }

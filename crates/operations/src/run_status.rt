@@ -3,6 +3,7 @@
 ghost use Rattle.std.specs.Prelude.{◌≡◌, false, None, IsNone, IsSome};
 ghost use Rattle.ports.specs.declared.feed.Received.TheVariants.{Nothing};
 
+use crate::number_keeper::NumberKeeper;
 use crate::steering::{PeerRequest, Steering};
 use control_protocol::{Screened, Unheard};
 use ports::{Look, Received, Status};
@@ -15,6 +16,9 @@ use std::sync::Arc;
 use std::sync::atomic::{AtomicU64, Ordering};
 use std::thread::Threads;
 use tmmbr_tuple::Ssrc;
+
+/// So many milliseconds lie between two notes of the legs' numbers.
+const NOTE_MS: u64 = 1000;
 
 /// What is shown of a run while it goes on.
 #[derive(Drop)]
@@ -43,6 +47,10 @@ pub struct RunStatus {
     steering: Option<RefCell<Steering>>,
     /// Who records the run, if anybody does.
     recorder: Option<RefCell<Recorder>>,
+    /// Who notes the numbers of its legs, if anybody does.
+    keeper: Option<RefCell<NumberKeeper>>,
+    /// The moment from which on they are noted next, in milliseconds.
+    numbers_due_ms: Cell<u64>,
 }
 
 impl RunStatus {
@@ -52,6 +60,7 @@ impl RunStatus {
     pub fn new() -> RunStatus
         ensures steering { result.steering ≡ None }
         ensures recorder { result.recorder ≡ None }
+        ensures keeper { result.keeper ≡ None }
     {
         RunStatus {
             strangers: Cell::new(0),
@@ -66,6 +75,8 @@ impl RunStatus {
             unread: RefCell::new(None),
             steering: None,
             recorder: None,
+            keeper: None,
+            numbers_due_ms: Cell::new(u64::MAX),
         }
     }
 
@@ -88,6 +99,31 @@ impl RunStatus {
         self.recorder = Some(RefCell::new(recorder));
     }
 
+    /// The numbers of the run's legs are noted from now on.
+    pub fn keep_numbers(&mut self, keeper: NumberKeeper)
+        ensures keeper { IsSome self.new.keeper }
+        ensures others { (self.new.steering ≡ self.old.steering)
+            × (self.new.recorder ≡ self.old.recorder) }
+    {
+        self.keeper = Some(RefCell::new(keeper));
+        self.numbers_due_ms.set(NOTE_MS);
+    }
+
+    /// Whether the numbers of the run's legs are to be noted at this moment.
+    pub(crate) fn are_numbers_due(&self, moment: u64) -> bool {
+        moment >= self.numbers_due_ms.get()
+    }
+
+    /// The numbers of the run's legs are noted at this moment, if anybody does that.
+    pub fn note_numbers(&self, moment: u64, traffic: &Traffic) {
+        if let Some(keeper) = &self.keeper {
+            self.numbers_due_ms.set(moment.saturating_add(NOTE_MS));
+            if let Ok(mut keeper) = keeper.try_borrow_mut() {
+                keeper.note(traffic);
+            }
+        }
+    }
+
     /// Who records the run, if anybody may.
     pub fn recorder(&self) -> Option<RefMut<'_, Recorder>>
         ensures { self.now.recorder ≡ None → IsNone result }
@@ -104,11 +140,16 @@ impl RunStatus {
         recorder.state()
     }
 
-    /// The run has ended, and so has its record.
+    /// The run has ended, and so have its record and the notes of its numbers.
     pub(crate) fn finish<R: Threads>(self, rt: &R) {
-        let RunStatus { recorder, .. } = self;
+        let RunStatus {
+            recorder, keeper, ..
+        } = self;
         if let Some(recorder) = recorder {
             recorder.into_inner().finish(rt);
+        }
+        if let Some(keeper) = keeper {
+            keeper.into_inner().finish(rt);
         }
     }
 

@@ -1,11 +1,11 @@
-//! A watch of a unit that may be steered.
+//! A watch of a unit that may be steered, and whose numbers may be noted.
 
 use crate::run_status::RunStatus;
 use desk::Desk;
 use ports::{Look, Status, Watch};
 use stats::Traffic;
 
-/// A watch, and what peers are shown beside.
+/// A watch, and beside it what peers are shown, and the numbers of legs that are noted.
 #[derive(Drop)]
 pub struct SteeredWatch<'a, W: Drop> {
     pub watch: W,
@@ -15,7 +15,9 @@ pub struct SteeredWatch<'a, W: Drop> {
 
 impl<W: Watch + Drop> Watch for SteeredWatch<'_, W> {
     fn is_due(&self, moment: u64) -> bool {
-        self.watch.is_due(moment) || self.run_status.wants_counts()
+        self.watch.is_due(moment)
+            || self.run_status.wants_counts()
+            || self.run_status.are_numbers_due(moment)
     }
 
     fn show(&mut self, moment: u64, status: &Status) {
@@ -23,6 +25,9 @@ impl<W: Watch + Drop> Watch for SteeredWatch<'_, W> {
             self.watch.show(moment, status);
         }
         self.run_status.show_counts(status);
+        if self.run_status.are_numbers_due(moment) {
+            self.run_status.note_numbers(moment, self.traffic);
+        }
     }
 
     fn look(&self) -> Look {

@@ -1,5 +1,5 @@
 -- The lines of a record: of each event that a unit takes in, and of its head.
-use Rattle.std.specs.Prelude.{◌++◌, ℕ, Bool, true, false, List, [], ◌∷◌, codes}
+use Rattle.std.specs.Prelude.{◌++◌, ◌==◌, ℕ, Bool, true, false, List, [], ◌∷◌, codes, flat_map, length, if◌then◌else◌}
 use Rattle.std.specs.Fmt.{decimal}
 use Rattle.hex.specs.Hex.{encode_lower}
 use Rattle.events.specs.declared.event.Event.{Event}
@@ -55,5 +55,15 @@ program_part version settings =
 abbrev pub time_part : ℕ → List ℕ
 time_part began_ms = codes "# moment 0 unix_ms " ++ (decimal began_ms ++ codes "\n")
 
-abbrev pub header_text : List ℕ → List ℕ → ℕ → List ℕ
-header_text version settings began_ms = program_part version settings ++ time_part began_ms
+abbrev pub spaced_number : ℕ → List ℕ
+spaced_number number = codes " " ++ decimal number
+
+-- with which numbers legs began, by the legs' own numbers; nothing if they began as the settings say
+abbrev pub first_part : List ℕ → List ℕ
+first_part numbers =
+    if length numbers == 0 then []
+    else codes "# first_seq" ++ (flat_map spaced_number numbers ++ codes "\n")
+
+abbrev pub header_text : List ℕ → List ℕ → ℕ → List ℕ → List ℕ
+header_text version settings began_ms first =
+    program_part version settings ++ (time_part began_ms ++ first_part first)

@@ -17,8 +17,9 @@ pub use addresses::{
     read_clients, read_served,
 };
 pub use operations::{
-    ControlFault, EndpointInfo, ErrorOutput, RECORD_LIMIT, RecordFault, Recorder, RunStatus,
-    Steering, close_control, close_record, open_control, open_record,
+    ControlFault, EndpointInfo, ErrorOutput, NumberKeeper, NumbersFault, RECORD_LIMIT, RecordFault,
+    Recorder, RunStatus, Steering, close_control, close_record, open_control, open_numbers,
+    open_record,
 };
 pub use running::run_on;
 pub use serve::{Term, serve_file, serve_on, serve_socket, serve_watched};

@@ -54,7 +54,7 @@ pub fn run_on<R: AllocGlobal + Threads + Wait + Sync + time::Clock, W: Watch + D
     Ok(report)
 }
 
-/// Sends BYEs to who was present when somebody had the unit stopped.
+/// Notes the last numbers of the legs, and sends BYEs to who was present when somebody had the unit stopped.
 fn leave(
     alloc: Global,
     sockets: Sockets<'_>,
@@ -62,6 +62,7 @@ fn leave(
     run_status: &RunStatus,
     common: &Common,
 ) {
+    run_status.note_numbers(run_status.moment_ms.get(), &common.traffic);
     if let Some(present) = run_status.present_at_stop() {
         let mut sink = SocketSink::new(sockets, &common.directory, &common.traffic);
         say_goodbyes(alloc, settings, present.as_slice(), &mut sink);

@@ -1,3 +1,4 @@
+pub mod BegunLemmas
 pub mod DistanceLemmas
 pub mod KeyLemmas
 pub mod MeantLemmas

@@ -1,4 +1,5 @@
 pub mod Advice
+pub mod Begun
 pub mod Distance
 pub mod Formats
 pub mod Fronts

@@ -1,7 +1,7 @@
 //! The settings of a room as TOML text: which settings a text gives, or its first fault, and what is said of one, to scripts and to people.
 //!
 //! Read `settings_file` first, then `advice`. `settings_keys` has the keys and the order of faults, `bound_keys` those of bounds, `tick_key` that of the
-//! unit's pace, and `values` takes values out of a table; `formats` looks at payload types, and
+//! unit's pace, and `values` takes values out of a table; `begun` reads settings whose legs begin with other numbers; `formats` looks at payload types, and
 //! `problem_text` is the line that scripts read. Of the line for people `wanted` says what may stand
 //! at each key, `finding` where a key stands in the file, `noticed` what else its document has there, `misspelt` (over `distance`) which key is meant
 //! by one that there isn't, and `reaching` why a unit can't send to an address; `lines` has the forms of a line. `laws` says that the keys
@@ -9,6 +9,7 @@
 #![tactic(auto)]
 
 mod advice;
+mod begun;
 mod bound_keys;
 mod distance;
 mod finding;
@@ -26,6 +27,7 @@ mod values;
 mod wanted;
 
 pub use advice::{bind_advice, file_advice, settings_advice};
+pub use begun::read_begun;
 pub use bound_keys::{
     BoundKeys, ENTRIES, FLOODS, GAPS_MS, LEAST_REPEAT_MS, LEAST_STALL_MS, REPEATS_MS, SHARES,
     STALLS_MS,

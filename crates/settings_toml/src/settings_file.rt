@@ -189,7 +189,7 @@ pub fn problem_at(alloc: Global, place: Place<'_>) -> SettingsProblem
 }
 
 /// What a table says of the room's settings.
-fn parts_of(alloc: Global, table: &Table) -> Result<Parts, AllocError>
+pub(crate) fn parts_of(alloc: Global, table: &Table) -> Result<Parts, AllocError>
     ensures { IfOk result (ArePartsOf (table_view table.now)) }
 {
     Ok(Parts {
@@ -208,7 +208,7 @@ fn parts_of(alloc: Global, table: &Table) -> Result<Parts, AllocError>
 }
 
 /// What it asks of the room beyond these.
-fn extras_of(alloc: Global, table: &Table) -> Result<Extras, AllocError>
+pub(crate) fn extras_of(alloc: Global, table: &Table) -> Result<Extras, AllocError>
     ensures { IfOk result (AreExtrasOf (table_view table.now)) }
 {
     Ok(Extras {

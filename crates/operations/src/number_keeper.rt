@@ -1,0 +1,191 @@
+//! Who notes with which numbers legs begin after the next start. A thread of its own writes that down, and nobody waits for it.
+
+ghost use Rattle.std.specs.Prelude.{◌≡◌, IfOk};
+
+use crate::lines::ErrorOutput;
+use leg_numbers::{NumbersFault, first_after, numbers_file};
+use std::alloc::{AllocError, Global};
+use std::fs;
+use std::io::{ErrorKind, Read, Write};
+use std::net::{Net, Shutdown};
+use std::os::unix::net::UnixStream;
+use std::rt::Files;
+use std::sync::Arc;
+use std::sync::atomic::{AtomicU16, Ordering};
+use std::thread::{self, JoinHandle, Threads};
+use stats::Traffic;
+
+/// With which number each leg begins after the next start. The thread that receives writes them, another one reads them.
+#[derive(Drop)]
+struct FirstNumbers {
+    cells: Vec<AtomicU16>,
+}
+
+/// Notes with which number each leg begins after the next start.
+#[derive(Drop)]
+pub struct NumberKeeper {
+    /// By the number of each leg the number after its newest, at the last note; the one with which it began while nothing was sent on it.
+    next: Vec<u16>,
+    first: Arc<FirstNumbers, Global>,
+    /// Rings there for each note.
+    bell: UnixStream,
+    thread: JoinHandle<()>,
+}
+
+/// What the thread writes down, and where.
+#[derive(Drop)]
+struct NumberWriter<D: Drop> {
+    alloc: Global,
+    disk: D,
+    path: String,
+    /// Where a file is written before it takes the place of the one before.
+    beside: String,
+    /// The SHA-256 of the settings.
+    digest: Vec<u8>,
+    first: Arc<FirstNumbers, Global>,
+    bell: UnixStream,
+}
+
+/// Notes at this path, from now on, the numbers of a unit whose settings have this SHA-256 and whose legs begin with these. What they begin
+/// with stands there at once. Fails as `NoMemory`; or as `Unwritable`, if the system doesn't let a file be there, or has no thread for it.
+pub fn open_numbers<R: AllocGlobal + ErrorOutput + Net + Threads>(
+    rt: &R,
+    path: &str,
+    digest: &[u8],
+    first: Vec<u16>,
+) -> Result<NumberKeeper, NumbersFault>
+    ensures { IfOk result (λ keeper. keeper.next ≡ first) }
+{
+    let Ok((bell, heard)) = bells(rt) else {
+        return Err(NumbersFault::Unwritable);
+    };
+    let (cells, shared) = cells_of(rt.alloc(), first.as_slice())?;
+    let writer = NumberWriter {
+        alloc: rt.alloc(),
+        disk: rt.disk(),
+        path: String::from_str(rt.alloc(), path)?,
+        beside: beside_of(rt.alloc(), path)?,
+        digest: Vec::from_slice(rt.alloc(), digest)?,
+        first: shared,
+        bell: heard,
+    };
+    if !writer.write() {
+        return Err(NumbersFault::Unwritable);
+    }
+    match thread::spawn(rt, move || write_numbers(writer)) {
+        Ok(thread) => Ok(NumberKeeper {
+            next: first,
+            first: cells,
+            bell,
+            thread,
+        }),
+        Err(_) => Err(NumbersFault::Unwritable),
+    }
+}
+
+/// Who rings, without ever waiting, and who hears it.
+fn bells<R: Net>(rt: &R) -> std::io::Result<(UnixStream, UnixStream)> {
+    let (bell, heard) = UnixStream::pair(rt)?;
+    bell.set_nonblocking(true)?;
+    Ok((bell, heard))
+}
+
+/// Where a file is written before it is at the path: beside it.
+fn beside_of(alloc: Global, path: &str) -> Result<String, AllocError> {
+    format!(in alloc; "{path}.new")
+}
+
+/// These numbers, for two who share them.
+fn cells_of(
+    alloc: Global,
+    first: &[u16],
+) -> Result<(Arc<FirstNumbers, Global>, Arc<FirstNumbers, Global>), AllocError> {
+    let mut cells = Vec::with_capacity(alloc, first.len())?;
+    for number in first {
+        cells.push(AtomicU16::new(*number))?;
+    }
+    let first = Arc::new(alloc, FirstNumbers { cells })?;
+    let shared = Arc::try_clone(&first)?;
+    Ok((first, shared))
+}
+
+impl NumberKeeper {
+    /// Notes what the legs begin with after what was sent on them by now.
+    pub(crate) fn note(&mut self, traffic: &Traffic) {
+        for leg in 0..self.next.len() {
+            self.note_leg(leg, traffic);
+        }
+        let _ = self.bell.write(b"\n");
+    }
+
+    /// The same of this leg. One on which nothing was sent so far stays as it is.
+    fn note_leg(&mut self, leg: usize, traffic: &Traffic) {
+        let Some(next) = next_of(traffic, leg) else {
+            return;
+        };
+        let Some(noted) = self.next.as_mut_slice().get_mut(leg) else {
+            return;
+        };
+        let given = next.wrapping_sub(*noted);
+        *noted = next;
+        if let Some(cell) = self.first.cells.get(leg) {
+            cell.store(first_after(next, given), Ordering::SeqCst);
+        }
+    }
+
+    /// The unit has ended: waits until the last note is written.
+    pub fn finish<R: Threads>(self, rt: &R) {
+        let NumberKeeper { bell, thread, .. } = self;
+        let _ = bell.shutdown(Shutdown::Write);
+        thread.join(rt);
+    }
+}
+
+/// The number after the newest that was sent on this leg, if any was.
+fn next_of(traffic: &Traffic, leg: usize) -> Option<u16> {
+    let leg = u16::try_from(leg).ok()?;
+    traffic.leg(leg)?.next
+}
+
+/// Writes down each note when the bell rings, until nobody notes any more.
+fn write_numbers<D: Files + Drop>(writer: NumberWriter<D>) {
+    let mut writer = writer;
+    for _ring in 0..u64::MAX {
+        let is_over = writer.is_over();
+        let _ = writer.write();
+        if is_over {
+            return;
+        }
+    }
+}
+
+impl<D: Files + Drop> NumberWriter<D> {
+    /// Waits until the bell rings; whether it rings no more.
+    fn is_over(&mut self) -> bool {
+        let mut rings = [0; 64];
+        match self.bell.read(rings.as_mut_slice()) {
+            Ok(0) => true,
+            Ok(_) => false,
+            Err(error) => error.kind() != ErrorKind::Interrupted,
+        }
+    }
+
+    /// Puts a file with the numbers as they are now in the place of the one before, as a whole; whether that was done.
+    fn write(&self) -> bool {
+        let Ok(file) = self.file() else {
+            return false;
+        };
+        let (path, beside) = (self.path.as_str(), self.beside.as_str());
+        fs::write(&self.disk, beside, file).is_ok() && fs::rename(&self.disk, beside, path).is_ok()
+    }
+
+    /// The file with the numbers as they are now.
+    fn file(&self) -> Result<Vec<u8>, AllocError> {
+        let cells = self.first.cells.as_slice();
+        let mut numbers = Vec::with_capacity(self.alloc, cells.len())?;
+        for cell in cells {
+            numbers.push(cell.load(Ordering::SeqCst))?;
+        }
+        numbers_file(self.alloc, self.digest.as_slice(), numbers.as_slice())
+    }
+}
