@@ -1,8 +1,8 @@
 //! The file in which a unit notes with which number each leg begins after the next start.
 
-ghost use Rattle.std.specs.Prelude.{◌≡◌, ◌≢◌, ◌+◌, ◌<◌, ◌∷◌, ◌++◌, ℕ, [], List, flat_map, length, IfOk, MatchOption, OnOk};
+ghost use Rattle.std.specs.Prelude.{◌≡◌, ◌+◌, ◌<◌, ◌∷◌, ◌++◌, [], true, false, drop, flat_map, length, IfOk, MatchOption, OnOk};
 ghost use Rattle.byteorder.specs.Endian.{big_bytes};
-ghost use Rattle.leg_numbers.specs.Numbers.{AreNumbers, IsNumbersFile, IsReadAs, numbers_file, numbers_in};
+ghost use Rattle.leg_numbers.specs.Numbers.{Reads, begins_with, numbers_file, numbers_in, read_file, read_rows, read_settings};
 
 use byteorder::{BigEndian, ByteOrder};
 use std::alloc::{AllocError, Global};
@@ -71,35 +71,55 @@ fn push_number(file: &mut Vec<u8>, number: u16) -> Result<(), AllocError>
     Ok(())
 }
 
-/// The numbers with which so many legs begin, by the file of a unit whose settings have this SHA-256. `Unreadable` if the file doesn't begin
-/// as such a file, or doesn't have a number for each leg and no more; before the latter `OtherSettings` if the SHA-256 is another one.
+/// The numbers with which so many legs begin, by the file of a unit whose settings have this SHA-256. `Unreadable` if it doesn't begin as such
+/// a file, then `OtherSettings` if the SHA-256 is another one, then `Unreadable` if it doesn't have a number for each leg and no more. A file
+/// that passes is refused for want of memory alone.
 pub fn read_numbers(
     alloc: Global,
     file: &[u8],
     digest: &[u8],
     legs: usize,
 ) -> Result<Vec<u16>, NumbersFault>
-    ensures ok { IfOk result (λ numbers. IsNumbersFile file.now digest.now legs numbers.items) }
-    ensures again { (numbers : List ℕ) → file.now ≡ numbers_file digest.now numbers
-        → AreNumbers numbers → length numbers ≡ legs → IsReadAs numbers result }
+    ensures { Reads (read_file digest.now legs file.now) result }
 {
-    let Some(rest) = behind(file, b"sfu numbers 1\n") else {
-        return Err(NumbersFault::Unreadable);
-    };
-    let Some(rows) = behind(rest, digest) else {
-        return Err(NumbersFault::OtherSettings);
-    };
-    if rows.len() % ROW_BYTES != 0 || rows.len() / ROW_BYTES != legs {
-        return Err(NumbersFault::Unreadable);
+    match behind(file, b"sfu numbers 1\n") {
+        Some(rest) => read_settings(alloc, rest, digest, legs),
+        None => Err(NumbersFault::Unreadable),
     }
-    let numbers = numbers_of(alloc, rows)?;
-    Ok(numbers)
+}
+
+/// What stands behind the first line.
+fn read_settings(
+    alloc: Global,
+    rest: &[u8],
+    digest: &[u8],
+    legs: usize,
+) -> Result<Vec<u16>, NumbersFault>
+    ensures { Reads (read_settings digest.now legs rest.now) result }
+{
+    match behind(rest, digest) {
+        Some(rows) => read_rows(alloc, rows, legs),
+        None => Err(NumbersFault::OtherSettings),
+    }
+}
+
+/// What stands behind the settings.
+fn read_rows(alloc: Global, rows: &[u8], legs: usize) -> Result<Vec<u16>, NumbersFault>
+    ensures { Reads (read_rows legs rows.now) result }
+{
+    if rows.len() % ROW_BYTES == 0 && rows.len() / ROW_BYTES == legs {
+        let numbers = numbers_of(alloc, rows)?;
+        Ok(numbers)
+    } else {
+        Err(NumbersFault::Unreadable)
+    }
 }
 
 /// What stands behind this front, if the bytes begin with it.
 fn behind<'a>(bytes: &'a [u8], front: &[u8]) -> Option<&'a [u8]>
-    ensures { MatchOption result ((rest : List ℕ) → bytes.entry.now ≢ front.now ++ rest)
-        (λ rest. bytes.entry.now ≡ front.now ++ rest.now) }
+    ensures { MatchOption result (begins_with front.now bytes.entry.now ≡ false)
+        (λ rest. (begins_with front.now bytes.entry.now ≡ true)
+        × (rest.now ≡ drop (length front.now) bytes.entry.now)) }
 {
     bytes.strip_prefix(front)
 }
