@@ -1,15 +1,13 @@
 -- How commands end.
 use Rattle.std.proofs.Common.{◌≡◌, ◌≢◌, ◌∙◌, ℕ, Bool, List, None, Option, Some, inl, inr, refl, subst, sym, unwrap_or}
 use Rattle.std.proofs.KnownBytes.{Keeps-refl}
-use Rattle.std.specs.Io.KnownBytes.{Appends}
 use Rattle.cli.specs.CommandLine.{AsksOfUnit, Request, ask, bound, check, draw, offline_request, page, plan, replay, sdp, serve, version}
 use Rattle.cli.specs.Ends.{EndsOffline}
 use Rattle.cli.specs.declared.words.Offline.{Offline}
 use Rattle.cli.specs.declared.words.Offline.TheVariants as offline
 use Rattle.commands.specs.Commands.{Ends, EndsNumbered, EndsUnit}
-use Rattle.commands.specs.Numbers.{numbers_notice}
+use Rattle.commands.specs.Numbers.{SaysUnused}
 use Rattle.leg_numbers.specs.declared.file.NumbersFault.{NumbersFault}
-use Rattle.leg_numbers.specs.declared.file.NumbersFault.TheVariants.{NoMemory}
 use Rattle.cli.specs.Statuses.{SaysWhy}
 use Rattle.cli.specs.declared.status.Status.{Status}
 use Rattle.cli.specs.declared.status.Status.TheVariants as status
@@ -52,11 +50,11 @@ ends_unnumbered numbers ticks old new errors_old errors_new s ends =
 
 -- this was said of the file of numbers, and then a unit was served
 pub ends_noticed : (path : List ℕ) (numbers : Option (List ℕ)) (fault : NumbersFault) (ticks : Option ℕ) (old new errors_old said errors_new : Option (List ℕ)) (s : Status)
-    → numbers ≡ Some path → fault ≢ NoMemory → Appends errors_old said (numbers_notice fault) → EndsUnit ticks old new said errors_new s
+    → numbers ≡ Some path → SaysUnused fault errors_old said → EndsUnit ticks old new said errors_new s
     → EndsNumbered numbers ticks old new errors_old errors_new s
-ends_noticed path numbers fault ticks old new errors_old said errors_new s asked lacks noticed ends =
+ends_noticed path numbers fault ticks old new errors_old said errors_new s asked noticed ends =
     let is_asked : numbers ≡ None → said ≡ errors_old = λ none. absurd cc in
-    record { said = said; of_numbers = record { unasked = is_asked; notice = inr (fault, lacks, noticed) }; ends = ends }
+    record { said = said; of_numbers = record { unasked = is_asked; notice = inr (fault, noticed) }; ends = ends }
 
 -- the words couldn't be read, whatever they ask for
 pub unread : (asked : Request) (input printed errors_old errors_new : Option (List ℕ)) (s : Status) → s ≢ status.Done → s ≢ status.Refused → s ≢ status.Settings

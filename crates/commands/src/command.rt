@@ -8,18 +8,18 @@ ghost use Rattle.settings_toml.specs.SettingsText.{SaysProblem};
 
 use crate::ask::run_ask;
 use crate::description::run_sdp;
-use crate::numbers::{begin_numbers, numbers_notice};
+use crate::numbers::{begin_numbers, say_unused};
 use crate::plan::run_settings;
 use crate::served::{ServedFile, served_in};
 use cli::{
     Action, Record, Status, read_words, refuse_words, report_settings, run_offline, say,
-    say_no_memory, unsaid,
+    say_no_memory,
 };
 use replay::{Shown, run_replay};
 use request_text::Meter;
 use serving::{
-    ControlFault, ErrorOutput, NumberKeeper, NumbersFault, RECORD_LIMIT, RecordFault, RunStatus,
-    Term, close_control, close_record, open_control, open_record, serve_file,
+    ControlFault, ErrorOutput, NumberKeeper, RECORD_LIMIT, RecordFault, RunStatus, Term,
+    close_control, close_record, open_control, open_record, serve_file,
 };
 use std::convert::AsStr;
 use std::fs::File;
@@ -178,10 +178,9 @@ fn serve_numbered<
     };
     match begin_numbers(rt, path, &mut file) {
         Ok(keeper) => serve_steered(rt, &file, Some(keeper), term, paths, writer, errors),
-        Err(NumbersFault::NoMemory) => say_no_memory(errors),
-        Err(fault) => match errors.write_all(numbers_notice(fault).as_bytes()) {
+        Err(fault) => match say_unused(errors, fault) {
             Ok(()) => serve_steered(rt, &file, None, term, paths, writer, errors),
-            Err(error) => unsaid(&error),
+            Err(status) => status,
         },
     }
 }

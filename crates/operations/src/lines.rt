@@ -20,6 +20,7 @@ const LOOK_MS: u64 = 2;
 /// A runtime whose error output any thread may write to, and whose files any thread may replace.
 pub trait ErrorOutput {
     type Output: Write + Send + Drop + 'static;
+
     type Disk: Files + Send + Drop + 'static;
 
     /// The error output.
@@ -31,6 +32,7 @@ pub trait ErrorOutput {
 
 impl ErrorOutput for HostRuntime {
     type Output = Stderr;
+
     type Disk = HostRuntime;
 
     fn error_output(&self) -> Stderr {

@@ -4,6 +4,7 @@ ghost use Rattle.std.specs.Prelude.{◌≡◌, IfOk};
 
 use crate::lines::ErrorOutput;
 use leg_numbers::{NumbersFault, first_after, numbers_file};
+use stats::Traffic;
 use std::alloc::{AllocError, Global};
 use std::fs;
 use std::io::{ErrorKind, Read, Write};
@@ -13,7 +14,6 @@ use std::rt::Files;
 use std::sync::Arc;
 use std::sync::atomic::{AtomicU16, Ordering};
 use std::thread::{self, JoinHandle, Threads};
-use stats::Traffic;
 
 /// With which number each leg begins after the next start. The thread that receives writes them, another one reads them.
 #[derive(Drop)]

@@ -143,7 +143,9 @@ impl RunStatus {
     /// The run has ended, and so have its record and the notes of its numbers.
     pub(crate) fn finish<R: Threads>(self, rt: &R) {
         let RunStatus {
-            recorder, keeper, ..
+            recorder,
+            keeper,
+            ..
         } = self;
         if let Some(recorder) = recorder {
             recorder.into_inner().finish(rt);

@@ -23,7 +23,7 @@ pub struct Header<'a> {
 pub fn header_text(alloc: Global, header: &Header<'_>) -> Result<String, AllocError>
     ensures { IfOk result (λ text. string_bytes text
         ≡ header_text header.now.version.now header.now.settings.now header.now.began_ms
-            header.now.first.now) }
+        header.now.first.now) }
 {
     let mut text = program_part(alloc, header.version, header.settings)?;
     let time = time_part(alloc, header.began_ms)?;

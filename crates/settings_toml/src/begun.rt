@@ -11,11 +11,7 @@ use toml::Table;
 
 /// The settings of the room that a text spells, but that its legs begin with these numbers, by the legs' own numbers; a leg without one begins
 /// as the text says. A text that spells no room is refused as want of memory, or as no document: `read_settings` says what is wrong with it.
-pub fn read_begun(
-    alloc: Global,
-    text: &[u8],
-    numbers: &[u16],
-) -> Result<Settings, SettingsProblem>
+pub fn read_begun(alloc: Global, text: &[u8], numbers: &[u16]) -> Result<Settings, SettingsProblem>
     ensures { IfOk result (BeginsWith text.now numbers.now) }
 {
     match toml::table_from_slice(alloc, text) {
