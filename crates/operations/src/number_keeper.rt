@@ -24,7 +24,7 @@ struct FirstNumbers {
 /// Notes with which number each leg begins after the next start.
 #[derive(Drop)]
 pub struct NumberKeeper {
-    /// By the number of each leg the number after its newest, at the last note; the one with which it began while nothing was sent on it.
+    /// By the number of each leg the number after its newest, at the last note; the one with which it begins while nothing was sent on it.
     next: Vec<u16>,
     first: Arc<FirstNumbers, Global>,
     /// Rings there for each note.
@@ -46,8 +46,8 @@ struct NumberWriter<D: Drop> {
     bell: UnixStream,
 }
 
-/// Notes at this path, from now on, the numbers of a unit whose settings have this SHA-256 and whose legs begin with these. What they begin
-/// with stands there at once. Fails as `NoMemory`; or as `Unwritable`, if the system doesn't let a file be there, or has no thread for it.
+/// Notes at this path, from now on, the numbers of a unit whose settings have this SHA-256 and whose legs begin with these. The first note
+/// stands there at once. Fails as `NoMemory`; or as `Unwritable`, if the system doesn't let a file be there, or has no thread for it.
 pub fn open_numbers<R: AllocGlobal + ErrorOutput + Net + Threads>(
     rt: &R,
     path: &str,
@@ -95,14 +95,14 @@ fn beside_of(alloc: Global, path: &str) -> Result<String, AllocError> {
     format!(in alloc; "{path}.new")
 }
 
-/// These numbers, for two who share them.
+/// What legs begin with after the next start that begin with these numbers now, for two who share it.
 fn cells_of(
     alloc: Global,
     first: &[u16],
 ) -> Result<(Arc<FirstNumbers, Global>, Arc<FirstNumbers, Global>), AllocError> {
     let mut cells = Vec::with_capacity(alloc, first.len())?;
     for number in first {
-        cells.push(AtomicU16::new(*number))?;
+        cells.push(AtomicU16::new(first_after(*number, 0)))?;
     }
     let first = Arc::new(alloc, FirstNumbers { cells })?;
     let shared = Arc::try_clone(&first)?;
@@ -118,14 +118,12 @@ impl NumberKeeper {
         let _ = self.bell.write(b"\n");
     }
 
-    /// The same of this leg. One on which nothing was sent so far stays as it is.
+    /// The same of this leg.
     fn note_leg(&mut self, leg: usize, traffic: &Traffic) {
-        let Some(next) = next_of(traffic, leg) else {
-            return;
-        };
         let Some(noted) = self.next.as_mut_slice().get_mut(leg) else {
             return;
         };
+        let next = next_of(traffic, leg).unwrap_or(*noted);
         let given = next.wrapping_sub(*noted);
         *noted = next;
         if let Some(cell) = self.first.cells.get(leg) {
