@@ -7,7 +7,7 @@ use leg_numbers::{NumbersFault, first_after, numbers_file};
 use stats::Traffic;
 use std::alloc::{AllocError, Global};
 use std::fs;
-use std::io::{ErrorKind, Read, Write};
+use std::io::{self, ErrorKind, Read, Write};
 use std::net::{Net, Shutdown};
 use std::os::unix::net::UnixStream;
 use std::rt::Files;
@@ -60,15 +60,7 @@ pub fn open_numbers<R: AllocGlobal + ErrorOutput + Net + Threads>(
         return Err(NumbersFault::Unwritable);
     };
     let (cells, shared) = cells_of(rt.alloc(), first.as_slice())?;
-    let writer = NumberWriter {
-        alloc: rt.alloc(),
-        disk: rt.disk(),
-        path: String::from_str(rt.alloc(), path)?,
-        beside: beside_of(rt.alloc(), path)?,
-        digest: Vec::from_slice(rt.alloc(), digest)?,
-        first: shared,
-        bell: heard,
-    };
+    let writer = writer_of(rt, path, digest, shared, heard)?;
     if !writer.write() {
         return Err(NumbersFault::Unwritable);
     }
@@ -83,8 +75,27 @@ pub fn open_numbers<R: AllocGlobal + ErrorOutput + Net + Threads>(
     }
 }
 
+/// Who writes these numbers at the path, of a unit whose settings have this SHA-256, when this bell rings.
+fn writer_of<R: AllocGlobal + ErrorOutput>(
+    rt: &R,
+    path: &str,
+    digest: &[u8],
+    first: Arc<FirstNumbers, Global>,
+    bell: UnixStream,
+) -> Result<NumberWriter<R::Disk>, AllocError> {
+    Ok(NumberWriter {
+        alloc: rt.alloc(),
+        disk: rt.disk(),
+        path: String::from_str(rt.alloc(), path)?,
+        beside: beside_of(rt.alloc(), path)?,
+        digest: Vec::from_slice(rt.alloc(), digest)?,
+        first,
+        bell,
+    })
+}
+
 /// Who rings, without ever waiting, and who hears it.
-fn bells<R: Net>(rt: &R) -> std::io::Result<(UnixStream, UnixStream)> {
+fn bells<R: Net>(rt: &R) -> io::Result<(UnixStream, UnixStream)> {
     let (bell, heard) = UnixStream::pair(rt)?;
     bell.set_nonblocking(true)?;
     Ok((bell, heard))
