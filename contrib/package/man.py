@@ -22,7 +22,8 @@ sfu - selective forwarding unit for RTP, and the sets of rates that it announces
 
 ```
 sfu serve FILE [--ticks N] [--status SECONDS]
-sfu replay FILE [--only-leg N] [--only-endpoint N] [--from MOMENT] [--events] < SCRIPT
+sfu replay FILE [--only-leg N] [--only-endpoint N] [--from MOMENT] [--events] [--gaps MS] [--utc]
+           [--other-settings] < SCRIPT
 sfu bound --sender N < LINES
 sfu check FILE
 {draw}sfu --help

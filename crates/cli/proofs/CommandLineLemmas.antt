@@ -110,14 +110,18 @@ pub asked_plan : (f : Found) (file : Option Text) → file ≡ first_value f (co
     → option_map plan file ≡ plain_named (codes "settings") (rows_of f)
 asked_plan f file is = ap (option_map plan) (is ∙ first_value-rows f (codes "FILE"))
 
-pub asked_replay : (f : Found) (file : Option Text) (leg endpoint from : Option ℕ) (events : Bool) → file ≡ first_value f (codes "FILE")
+pub asked_replay : (f : Found) (file : Option Text) (leg endpoint from : Option ℕ) (events : Bool) (gaps : Option ℕ) (utc others : Bool)
+    → file ≡ first_value f (codes "FILE")
     → leg ≡ number_in (codes "only-leg") (rows_of f) → endpoint ≡ number_in (codes "only-endpoint") (rows_of f)
     → from ≡ moment_in (codes "from") (rows_of f) → events ≡ is_set (codes "events") (rows_of f)
-    → option_map (λ t. replay t leg endpoint from events) file ≡ plain_named (codes "replay") (rows_of f)
-asked_replay f file leg endpoint from events is at_leg at_endpoint at_from at_events =
-    rw (at_leg, at_endpoint, at_from, at_events)
+    → gaps ≡ moment_in (codes "gaps") (rows_of f) → utc ≡ is_set (codes "utc") (rows_of f)
+    → others ≡ is_set (codes "other-settings") (rows_of f)
+    → option_map (λ t. replay t leg endpoint from events gaps utc others) file ≡ plain_named (codes "replay") (rows_of f)
+asked_replay f file leg endpoint from events gaps utc others is at_leg at_endpoint at_from at_events at_gaps at_utc at_others =
+    rw (at_leg, at_endpoint, at_from, at_events, at_gaps, at_utc, at_others)
     (ap (option_map (λ t. replay t (number_in (codes "only-leg") (rows_of f)) (number_in (codes "only-endpoint") (rows_of f))
-    (moment_in (codes "from") (rows_of f)) (is_set (codes "events") (rows_of f))))
+    (moment_in (codes "from") (rows_of f)) (is_set (codes "events") (rows_of f)) (moment_in (codes "gaps") (rows_of f))
+    (is_set (codes "utc") (rows_of f)) (is_set (codes "other-settings") (rows_of f))))
     (is ∙ first_value-rows f (codes "FILE")))
 
 pub asked_page : (f : Found) (path address : Option Text) (anyone : Bool) (host : Option Text) → path ≡ first_value f (codes "PATH")

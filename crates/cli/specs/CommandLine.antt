@@ -85,9 +85,14 @@ choosing_app =
     with_rule (with_rule (file_app (codes "replay")) (number_to_rule (codes "only-leg") (pos 65535)))
     (number_to_rule (codes "only-endpoint") (pos 65535))
 
-abbrev pub replay_app : App
-replay_app =
+abbrev pub telling_app : App
+telling_app =
     with_rule (with_rule choosing_app (moment_rule (codes "from") 0)) (flag_rule (codes "events"))
+
+abbrev pub replay_app : App
+replay_app = with_rule
+    (with_rule (with_rule telling_app (moment_rule (codes "gaps") 1)) (flag_rule (codes "utc")))
+    (flag_rule (codes "other-settings"))
 
 -- how many turns `--ticks` may name, and how many seconds `--status`: a day
 abbrev pub max_ticks : ℕ
@@ -155,7 +160,7 @@ pub record TakesArg (command : Result Command AllocError) (arg : Arg) (made : Re
 pub data Request : Type 0 where
   bound : ℕ → Request
   check : Text → Request
-  replay : Text → Option ℕ → Option ℕ → Option ℕ → Bool → Request
+  replay : Text → Option ℕ → Option ℕ → Option ℕ → Bool → Option ℕ → Bool → Bool → Request
   serve : Text → Option ℕ → Option ℕ → Option Text → Option (Text × Option ℕ) → Bool → Option Text
       → Request
   draw : ℕ → Request
@@ -176,7 +181,8 @@ offline_request offline.Version = version
 
 abbrev pub action_request : Action → Request
 action_request (action.Offline what) = offline_request what
-action_request (action.Replay file leg endpoint from events) = replay file.now leg endpoint from events
+action_request (action.Replay file leg endpoint from events gaps utc others) =
+    replay file.now leg endpoint from events gaps utc others
 action_request (action.Serve file ticks status control recorded log_time numbers) =
     serve file.now ticks status (option_map (λ path. path.now) control) (option_map record_of recorded) log_time
     (option_map (λ path. path.now) numbers)
@@ -236,7 +242,8 @@ plain_named name rows =
     else if bytes_eq name (codes "replay")
     then option_map
     (λ file. replay file (number_in (codes "only-leg") rows) (number_in (codes "only-endpoint") rows)
-    (moment_in (codes "from") rows) (is_set (codes "events") rows))
+    (moment_in (codes "from") rows) (is_set (codes "events") rows) (moment_in (codes "gaps") rows)
+    (is_set (codes "utc") rows) (is_set (codes "other-settings") rows))
     (first_of (codes "FILE") rows)
     else if bytes_eq name (codes "serve") then serve_named rows
     else if bytes_eq name (codes "draw") then option_map draw (number_in (codes "sender") rows)
@@ -285,7 +292,7 @@ abbrev pub AsksOfUnit : Option Request → Type 0
 AsksOfUnit None = ⊥
 AsksOfUnit (Some (bound media)) = ⊥
 AsksOfUnit (Some (check file)) = ⊥
-AsksOfUnit (Some (replay file leg endpoint from events)) = ⊥
+AsksOfUnit (Some (replay file leg endpoint from events gaps utc others)) = ⊥
 AsksOfUnit (Some (serve file ticks status control recorded log_time numbers)) = Unit {0}
 AsksOfUnit (Some (draw media)) = ⊥
 AsksOfUnit (Some version) = ⊥

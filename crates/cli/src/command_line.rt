@@ -48,13 +48,19 @@ const SERVED_HELP: &str = "The room's settings and everybody's address, in TOML"
 
 const SENDER_HELP: &str = "The SSRC of the media sender whose requests count, in decimal";
 
-const LEG_HELP: &str = "Prints datagrams of this leg alone: 0 to 65,535";
+const LEG_HELP: &str = "Prints what is of this leg alone: 0 to 65,535";
 
-const ENDPOINT_HELP: &str = "Prints datagrams to this endpoint alone: 0 to 65,535";
+const ENDPOINT_HELP: &str = "Prints what is of this endpoint alone: 0 to 65,535";
 
 const FROM_HELP: &str = "Prints nothing that follows from an event before this millisecond";
 
-const EVENTS_HELP: &str = "Prints the line of an event before what follows from it";
+const EVENTS_HELP: &str = "Prints the line of each event before what follows from it";
+
+const GAPS_HELP: &str = "Says where no packet goes out on a leg for so many milliseconds";
+
+const UTC_HELP: &str = "Shows moments by the wall clock (UTC), as the head of a record has it";
+
+const OTHER_SETTINGS_HELP: &str = "Plays a record of a unit that had other settings, too";
 
 const TICKS_HELP: &str = "Ends after so many turns, of at most 10 ms each: 1 to 1,000,000";
 
@@ -178,7 +184,10 @@ fn replay_command<'a>(alloc: Global) -> Result<Command<'a>, AllocError>
         number_to(alloc, "only-endpoint", ENDPOINT_HELP, MAX_NUMBER),
     );
     let replay = asking(replay, moment(alloc, "from", "MS", FROM_HELP, 0));
-    asking(replay, flag(alloc, "events", EVENTS_HELP))
+    let replay = asking(replay, flag(alloc, "events", EVENTS_HELP));
+    let replay = asking(replay, moment(alloc, "gaps", "MS", GAPS_HELP, 1));
+    let replay = asking(replay, flag(alloc, "utc", UTC_HELP));
+    asking(replay, flag(alloc, "other-settings", OTHER_SETTINGS_HELP))
 }
 
 /// `serve FILE`, with how many turns, what its lines of counts are, where it is steered, how it is recorded, and where its numbers are noted.

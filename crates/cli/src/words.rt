@@ -15,14 +15,18 @@ use std::convert::AsStr;
 pub enum Action<'a> {
     /// What needs neither a machine nor a unit.
     Offline(Offline<'a>),
-    /// `sfu replay FILE`: what the machine gives out for a script, by the file's settings. Of it only what goes out on a leg, or to an endpoint,
-    /// by their numbers; only from a moment on, in milliseconds. With the lines of the events, or without.
+    /// `sfu replay FILE`: what the machine gives out for a script, by the file's settings. Of it only what is of a leg, or of an endpoint, by
+    /// their numbers; only from a moment on, in milliseconds. With the lines of the events, or without; with where nothing goes out on a leg for
+    /// so many milliseconds, or without; by the wall clock, or not; also of a unit that had other settings, or not.
     Replay {
         file: &'a str,
         only_leg: Option<u32>,
         only_endpoint: Option<u32>,
         from: Option<u64>,
         events: bool,
+        gaps: Option<u64>,
+        utc: bool,
+        other_settings: bool,
     },
     /// `sfu serve FILE`: the unit on a socket, by the file's settings, for so many turns, or until it is stopped. With a line of counts each so
     /// many seconds, which begins with the time, or without; steered at a path, or not; recorded, or not; with the numbers of its legs noted at
@@ -186,6 +190,9 @@ fn plain_named<'a>(name: &str, matches: &ArgMatches<'a>) -> Option<Action<'a>>
             only_endpoint: number_in(matches, "only-endpoint"),
             from: moment_in(matches, "from"),
             events: is_set(matches, "events"),
+            gaps: moment_in(matches, "gaps"),
+            utc: is_set(matches, "utc"),
+            other_settings: is_set(matches, "other-settings"),
         }),
         "serve" => serve_named(matches),
         "draw" => Some(Action::Offline(Offline::Draw {

@@ -63,7 +63,7 @@ unread (bound media) input printed errors_old errors_new s fails read set_up hea
     record { done = λ is. absurd (fails is); refused = λ is. absurd (read is) }
 unread (check file) input printed errors_old errors_new s fails read set_up heard says =
     record { done = λ is. absurd (fails is); refused = λ is. absurd (read is) }
-unread (replay file leg endpoint from events) input printed errors_old errors_new s fails read set_up heard says =
+unread (replay file leg endpoint from events gaps utc others) input printed errors_old errors_new s fails read set_up heard says =
     record { done = λ is. absurd (fails is); refused = λ is. absurd (read is) }
 unread (serve file ticks seconds control recorded log_time numbers) input printed errors_old errors_new s fails read set_up heard says =
     ends_unnumbered numbers ticks printed printed errors_old errors_new s (unit_undone ticks printed errors_old errors_new s fails says)
@@ -96,10 +96,13 @@ pub no_set : (words : Option Request) (path address : List ℕ) (anyone : Bool) 
 no_set words path address anyone host media here there = cc
 
 -- what is shown begins at the moment that the words have, or at 0
-pub replay_ends : (leg endpoint from : Option ℕ) (events : Bool) (from_ms : ℕ) (input old new errors_old errors_new : Option (List ℕ)) (s : Status)
-    → from_ms ≡ unwrap_or from 0
-    → EndsReplay (record { only_leg = leg; only_endpoint = endpoint; from_ms = from_ms; events = events }) input old new errors_old errors_new s
-    → EndsReplay (shown_by leg endpoint from events) input old new errors_old errors_new s
-replay_ends leg endpoint from events from_ms input old new errors_old errors_new s is ends =
-    subst (λ (n : ℕ). EndsReplay (record { only_leg = leg; only_endpoint = endpoint; from_ms = n; events = events }) input old new errors_old errors_new s)
+pub replay_ends : (leg endpoint from : Option ℕ) (events : Bool) (gaps : Option ℕ) (utc others : Bool) (from_ms : ℕ)
+    (input old new errors_old errors_new : Option (List ℕ)) (s : Status) → from_ms ≡ unwrap_or from 0
+    → EndsReplay (record { only_leg = leg; only_endpoint = endpoint; from_ms = from_ms; events = events; gaps_ms = gaps; utc = utc }) others
+    input old new errors_old errors_new s
+    → EndsReplay (shown_by leg endpoint from events gaps utc) others input old new errors_old errors_new s
+replay_ends leg endpoint from events gaps utc others from_ms input old new errors_old errors_new s is ends =
+    subst (λ (n : ℕ).
+    EndsReplay (record { only_leg = leg; only_endpoint = endpoint; from_ms = n; events = events; gaps_ms = gaps; utc = utc }) others
+    input old new errors_old errors_new s)
     is ends

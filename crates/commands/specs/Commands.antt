@@ -68,8 +68,8 @@ abbrev pub Ends : Request → Option (List ℕ) → Option (List ℕ) → Option
 Ends (bound media) input old new errors_old errors_new s =
     EndsBound media input old new errors_old errors_new s
 Ends (check file) input old new errors_old errors_new s = EndsCheck old new errors_old errors_new s
-Ends (replay file leg endpoint from events) input old new errors_old errors_new s =
-    EndsReplay (shown_by leg endpoint from events) input old new errors_old errors_new s
+Ends (replay file leg endpoint from events gaps utc others) input old new errors_old errors_new s =
+    EndsReplay (shown_by leg endpoint from events gaps utc) others input old new errors_old errors_new s
 Ends (serve file ticks status control recorded log_time numbers) input old new errors_old errors_new s =
     EndsNumbered numbers ticks old new errors_old errors_new s
 Ends (draw media) input old new errors_old errors_new s =

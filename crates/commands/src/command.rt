@@ -94,6 +94,9 @@ pub fn run_metered<
                 only_endpoint,
                 from,
                 events,
+                gaps,
+                utc,
+                other_settings,
             },
         ) => {
             let shown = Shown {
@@ -101,8 +104,19 @@ pub fn run_metered<
                 only_endpoint,
                 from_ms: from.unwrap_or(0),
                 events,
+                gaps_ms: gaps,
+                utc,
             };
-            run_replay(rt, file, shown, meter, reader, writer, errors)
+            run_replay(
+                rt,
+                file,
+                shown,
+                other_settings,
+                meter,
+                reader,
+                writer,
+                errors,
+            )
         }
         Ok(
             Action::Serve {

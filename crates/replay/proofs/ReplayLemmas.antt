@@ -2,7 +2,7 @@
 use Rattle.std.proofs.Common.{◌≡◌, ◌∙◌, ℕ, ◌+◌, ◌<◌, ◌≤◌, zero, suc, Bool, true, false, List, [], ◌∷◌, ◌++◌, map, Bor, length, drop, get_or, Option, None, Some, Result, Ok, Err, refl, sym, ap, subst, inl, inr, arith, append_assoc}
 use Rattle.std.specs.Prelude.{OnOk}
 use Rattle.std.specs.Io.KnownBytes.{Appends}
-use Rattle.std.proofs.KnownBytes.{Appends-kept}
+use Rattle.std.proofs.KnownBytes.{Appends-kept, Appends-nil}
 use Rattle.std.proofs.lemmas.List.{append-nil, drop_all, length-map}
 use Rattle.settings.specs.Settings.{Configuration}
 use Rattle.events.specs.declared.event.Event.{Event}
@@ -19,12 +19,13 @@ use Rattle.cli.specs.declared.status.Failure.{Failure}
 use Rattle.cli.specs.declared.status.Failure.TheVariants.{NoMemory, Refused as RefusedLine, Io}
 use Rattle.replay.specs.declared.script.ScriptLine.TheVariants.{Unreadable}
 use Rattle.request_text.specs.Lines.{lines_of}
-use Rattle.replay.specs.Replay.{Drains, FailsLine, FailsReplay, Follows, GivesOut, IngressDrains, LinePlays, LinesPlay, PrintsLine, PrintsReplay, Rounds, Settles, WorkerDrains, WorkersDrain, again, cause_behind, numbers_of, over, quiet, round}
-use Rattle.replay.specs.Shown.{Cause, Given, Told, cause_of, given_at, no_cause, shown_text}
+use Rattle.replay.specs.Replay.{Drains, FailsLine, FailsLines, FailsReplay, Follows, GivesOut, IngressDrains, IsOutside, LinePlays, LinesPlay, PrintsLine, PrintsLines, PrintsReplay, Rounds, Settles, WorkerDrains, WorkersDrain, again, cause_behind, numbers_of, over, quiet, round, scene}
+use Rattle.replay.specs.Shown.{Cause, Given, Scene, Told, cause_of, first_trail, given_at, no_cause, shown_text, the_end, trail}
+use Rattle.replay.specs.declared.last_packets.LastPacket.{LastPacket}
 use Rattle.replay.specs.declared.replay.Progress.{Progress}
 use Rattle.replay.specs.declared.shown.Shown.{Shown}
 use Rattle.replay.specs.Printing.{PrintsGiven}
-use Rattle.replay.proofs.ShownLemmas.{more_printed, none_printed}
+use Rattle.replay.proofs.ShownLemmas.{more_printed}
 use Rattle.replay.specs.Script.{script_line_of}
 use Rattle.request_text.proofs.LineLemmas.{at_line}
 
@@ -39,12 +40,12 @@ joined old mid new first second p q = q ∙ (ap (λ (xs : List Out). xs ++ secon
 abbrev texts : List (Bor (List ℕ)) → List (List ℕ)
 texts lines = map (λ (x : Bor (List ℕ)). x.now) lines
 
--- after the last line nothing is given
-pub played_out : (c : Configuration) (i : ℕ) (cause : Cause) (lines : List (Bor (List ℕ))) (w : WorldState) → length lines ≤ i
-    → LinesPlay c (i + 1) cause (drop i (texts lines)) w [] None
+-- after the last line that they are over is told
+played_out : (c : Configuration) (i : ℕ) (cause : Cause) (lines : List (Bor (List ℕ))) (w : WorldState) → length lines ≤ i
+    → LinesPlay c (i + 1) cause (drop i (texts lines)) w (given_at cause (the_end ∷ [])) None
 played_out c i cause lines w past =
     let all : length (texts lines) ≤ i = rw length-map past in
-    subst (λ (ls : List (List ℕ)). LinesPlay c (i + 1) cause ls w [] None) (sym (drop_all i (texts lines) all)) (refl, refl)
+    subst (λ (ls : List (List ℕ)). LinesPlay c (i + 1) cause ls w (given_at cause (the_end ∷ [])) None) (sym (drop_all i (texts lines) all)) (refl, refl)
 
 pub plays_on : (c : Configuration) (i : ℕ) (here there : Cause) (lines : List (Bor (List ℕ))) (d : Bor (List ℕ)) (w next : WorldState)
     (told : List Told) (others : List Given) (stopped : Option ℕ) → i < length lines → there ≡ cause_behind c (i + 1) (get_or lines i d).now here
@@ -69,38 +70,41 @@ stops_at c i cause lines d w below unreadable =
 
 -- What was played so far: from a new world, and what is shown of what it gave was printed; whatever the lines from here on give comes
 -- after it.
-pub record Played (c : Configuration) (s : Shown) (script : List ℕ) (i : ℕ) (lines : List (List ℕ)) (w : WorldState) (here : Progress)
-    (old new : Option (List ℕ)) : Type 0 where
+pub record Played (c : Configuration) (v : Scene) (script : List ℕ) (i : ℕ) (lines : List (List ℕ)) (w : WorldState) (here : Progress)
+    (last : List LastPacket) (old new : Option (List ℕ)) : Type 0 where
   pub first : WorldState
   pub opened : IsNewWorld c first
   pub given : List Given
-  pub printed : PrintsGiven c s 0 given here.said old new
+  pub printed : PrintsGiven v (first_trail v) given (trail here.said last) old new
   pub rest : (others : List Given) (stopped : Option ℕ) → LinesPlay c (i + 1) (cause_of here.latest) (drop i lines) w others stopped
       → LinesPlay c 1 no_cause (lines_of script) first (given ++ others) stopped
 
-pub opens : (c : Configuration) (s : Shown) (script : List ℕ) (lines : List (List ℕ)) (w : WorldState) (here : Progress) (old : Option (List ℕ))
-    → IsNewWorld c w → lines ≡ lines_of script → cause_of here.latest ≡ no_cause → here.said ≡ 0 → Played c s script 0 lines w here old old
-opens c s script lines w here old new is none unsaid = record {
+pub opens : (c : Configuration) (v : Scene) (script : List ℕ) (lines : List (List ℕ)) (w : WorldState) (here : Progress) (last : List LastPacket)
+    (old : Option (List ℕ)) → IsNewWorld c w → lines ≡ lines_of script → cause_of here.latest ≡ no_cause → trail here.said last ≡ first_trail v
+    → Played c v script 0 lines w here last old old
+opens c v script lines w here last old new is none unsaid = record {
   first = w;
   opened = new;
   given = [];
-  printed = subst (λ (n : ℕ). PrintsGiven c s 0 [] n old old) (sym unsaid) (none_printed c s 0 old);
+  printed = record { printed = Appends-nil old; ends = unsaid };
   rest = λ others stopped play.
       subst (λ (ls : List (List ℕ)). LinesPlay c 1 no_cause ls w others stopped) is
       (subst (λ (k : Cause). LinesPlay c 1 k lines w others stopped) none play);
 }
 
-pub goes_on : (c : Configuration) (s : Shown) (script : List ℕ) (i number : ℕ) (lines : List (Bor (List ℕ))) (d : Bor (List ℕ)) (w next : WorldState)
-    (here there : Progress) (old mid new : Option (List ℕ)) → i < length lines → number ≡ i → Played c s script i (texts lines) w here old mid
-    → PrintsLine c s (number + 1) (get_or lines i d).now w next here there mid new
-    → Played c s script (i + 1) (texts lines) next there old new
-goes_on c s script i number lines d w next here there old mid new below counted played told =
+pub goes_on : (c : Configuration) (v : Scene) (script : List ℕ) (i number : ℕ) (lines : List (Bor (List ℕ))) (d : Bor (List ℕ)) (w next : WorldState)
+    (here there : Progress) (last then_last : List LastPacket) (old mid new : Option (List ℕ)) → i < length lines → number ≡ i
+    → Played c v script i (texts lines) w here last old mid
+    → PrintsLine c v (number + 1) (get_or lines i d).now w next here there last then_last mid new
+    → Played c v script (i + 1) (texts lines) next there then_last old new
+goes_on c v script i number lines d w next here there last then_last old mid new below counted played told =
     let k = cause_of there.latest in
-    let line = subst (λ (n : ℕ). PrintsLine c s (n + 1) (get_or lines i d).now w next here there mid new) counted told in record {
+    let line = subst (λ (n : ℕ). PrintsLine c v (n + 1) (get_or lines i d).now w next here there last then_last mid new) counted told in record {
       first = played.first;
       opened = played.opened;
       given = played.given ++ given_at k line.told;
-      printed = more_printed c s 0 here.said there.said played.given (given_at k line.told) old mid new played.printed line.printed;
+      printed = more_printed v (first_trail v) (trail here.said last) (trail there.said then_last) played.given (given_at k line.told) old mid new
+          played.printed line.printed;
       rest = λ others stopped play.
           subst (λ (t : List Given). LinesPlay c 1 no_cause (lines_of script) played.first t stopped)
           (sym (append_assoc played.given (given_at k line.told) others))
@@ -108,32 +112,33 @@ goes_on c s script i number lines d w next here there old mid new below counted 
           (plays_on c i (cause_of here.latest) k lines d w next line.told others stopped below line.latest line.plays play));
     }
 
--- the text of what was given so far
-whole : (c : Configuration) (s : Shown) (given : List Given) (said : ℕ) (old new : Option (List ℕ)) → PrintsGiven c s 0 given said old new
-    → Appends old new (shown_text c s (given ++ []))
-whole c s given said old new printed = subst (λ (gs : List Given). Appends old new (shown_text c s gs)) (sym (append-nil given)) printed.printed
+pub ends : (c : Configuration) (v : Scene) (script : List ℕ) (i : ℕ) (lines : List (Bor (List ℕ))) (w : WorldState) (here : Progress)
+    (last : List LastPacket) (old mid new : Option (List ℕ)) → length lines ≤ i → Played c v script i (texts lines) w here last old mid
+    → PrintsGiven v (trail here.said last) (given_at (cause_of here.latest) (the_end ∷ [])) (trail here.said last) mid new
+    → PrintsLines c v script old new
+ends c v script i lines w here last old mid new past played end =
+    let k = cause_of here.latest in
+    let all = more_printed v (first_trail v) (trail here.said last) (trail here.said last) played.given (given_at k (the_end ∷ [])) old mid new
+        played.printed end in record {
+      given = played.given ++ given_at k (the_end ∷ []);
+      plays = record {
+        world = played.first;
+        opened = played.opened;
+        lines = played.rest (given_at k (the_end ∷ [])) None (played_out c i k lines w past);
+      };
+      printed = all.printed;
+    }
 
-pub ends : (c : Configuration) (s : Shown) (script : List ℕ) (i : ℕ) (lines : List (Bor (List ℕ))) (w : WorldState) (here : Progress)
-    (old new : Option (List ℕ)) → length lines ≤ i → Played c s script i (texts lines) w here old new → PrintsReplay c s script old new
-ends c s script i lines w here old new past played = record {
-  given = played.given ++ [];
-  plays = record {
-    world = played.first;
-    opened = played.opened;
-    lines = played.rest [] None (played_out c i (cause_of here.latest) lines w past);
-  };
-  printed = whole c s played.given here.said old new played.printed;
-}
-
-pub fails : (c : Configuration) (s : Shown) (script : List ℕ) (i number : ℕ) (lines : List (Bor (List ℕ))) (d : Bor (List ℕ)) (w : WorldState)
-    (here : Progress) (old mid new : Option (List ℕ)) (failure : Failure) → i < length lines → number ≡ i
-    → Played c s script i (texts lines) w here old mid → FailsLine c (number + 1) (get_or lines i d).now mid new failure
-    → FailsReplay c s (Some script) old new failure
-fails c s script i number lines d w here old mid new NoMemory below counted played f = tt
-fails c s script i number lines d w here old mid new Io below counted played f = tt
-fails c s script i number lines d w here old mid new (RefusedLine n fault) below counted played f =
+pub fails : (c : Configuration) (v : Scene) (script : List ℕ) (i number : ℕ) (lines : List (Bor (List ℕ))) (d : Bor (List ℕ)) (w : WorldState)
+    (here : Progress) (last : List LastPacket) (old mid new : Option (List ℕ)) (failure : Failure) → i < length lines → number ≡ i
+    → Played c v script i (texts lines) w here last old mid → FailsLine c (number + 1) (get_or lines i d).now mid new failure
+    → FailsLines c v script old new failure
+fails c v script i number lines d w here last old mid new NoMemory below counted played f = tt
+fails c v script i number lines d w here last old mid new Io below counted played f = tt
+fails c v script i number lines d w here last old mid new (RefusedLine n fault) below counted played f =
     let place : n ≡ i + 1 = f.0 ∙ ap (λ (k : ℕ). k + 1) counted in
-    let stop = played.rest [] (Some (i + 1)) (stops_at c i (cause_of here.latest) lines d w below f.2) in (
+    let stop = played.rest [] (Some (i + 1)) (stops_at c i (cause_of here.latest) lines d w below f.2) in
+    let printed = subst (λ (gs : List Given). Appends old mid (shown_text v gs)) (sym (append-nil played.given)) played.printed.printed in (
       f.1,
       record {
         given = played.given ++ [];
@@ -142,9 +147,27 @@ fails c s script i number lines d w here old mid new (RefusedLine n fault) below
           opened = played.opened;
           lines = subst (λ (k : ℕ). LinesPlay c 1 no_cause (lines_of script) played.first (played.given ++ []) (Some k)) (sym place) stop;
         };
-        printed = Appends-kept old mid new (shown_text c s (played.given ++ [])) (whole c s played.given here.said old mid played.printed) f.3;
+        printed = Appends-kept old mid new (shown_text v (played.given ++ [])) printed f.3;
       },
     )
+
+-- no line was refused
+pub outside_fails : (c : Configuration) (v : Scene) (script : List ℕ) (old new : Option (List ℕ)) (failure : Failure) → IsOutside failure
+    → FailsLines c v script old new failure
+outside_fails c v script old new NoMemory outside = tt
+outside_fails c v script old new Io outside = tt
+outside_fails c v script old new (RefusedLine n fault) outside = absurd outside
+
+-- the scene of a script is that of its lines
+pub prints_by : (c : Configuration) (s : Shown) (v : Scene) (script : List ℕ) (old new : Option (List ℕ)) → v ≡ scene c s script
+    → PrintsLines c v script old new → PrintsReplay c s script old new
+prints_by c s v script old new is prints = subst (λ (x : Scene). PrintsLines c x script old new) is prints
+
+pub fails_by : (c : Configuration) (s : Shown) (v : Scene) (script : List ℕ) (old new : Option (List ℕ)) (failure : Failure) → v ≡ scene c s script
+    → FailsLines c v script old new failure → FailsReplay c s (Some script) old new failure
+fails_by c s v script old new NoMemory is f = tt
+fails_by c s v script old new Io is f = tt
+fails_by c s v script old new (RefusedLine n fault) is f = subst (λ (x : Scene). FailsLines c x script old new (RefusedLine n fault)) is f
 
 -- ---- settling
 

@@ -1,63 +1,139 @@
 -- What is shown of lists one after the other.
-use Rattle.std.proofs.Common.{◌≡◌, ◌∙◌, ℕ, ◌+◌, ◌<◌, suc, cond, drop, true, false, List, [], ◌∷◌, ◌++◌, map, length, take, get_or, Option, refl, sym, ap, subst, append_assoc}
+use Rattle.std.proofs.Common.{◌≡◌, ◌∙◌, ℕ, ◌+◌, ◌<◌, suc, zero, cond, drop, true, false, Bool, List, [], ◌∷◌, ◌++◌, map, length, take, get_or, Option, refl, sym, ap, subst, append_assoc}
 use Rattle.std.specs.Io.KnownBytes.{Appends}
 use Rattle.std.proofs.KnownBytes.{Appends-nil, Appends-trans}
 use Rattle.std.proofs.lemmas.Bool.{cond-false, cond-true}
 use Rattle.std.proofs.lemmas.List.{append-nil, map-append, take_more}
-use Rattle.std.proofs.lemmas.List.Elements.{filter-append}
-use Rattle.settings.specs.Settings.{Configuration}
 use Rattle.events.specs.declared.output.Out.{Out}
+use Rattle.replay.specs.LastPackets.{packets_after}
 use Rattle.replay.specs.Printing.{PrintsGiven}
-use Rattle.replay.specs.Shown.{Cause, Given, Told, an_out, given_at, heading, is_named, is_shown, lines_behind, names_source, said_behind, shown_of, told_line}
+use Rattle.replay.specs.Shown.{Cause, Given, Scene, Told, Trail, a_set, an_event, an_out, event_told, gap_before, given_at, heading, is_named, is_shown, leg_sent, lines_at, lines_behind, names_source, new_line, open_gaps, packet_at, said_after, shown_line, the_end, trail, trail_after, trail_behind}
 use Rattle.rtcp_compound.specs.Mux.{is_rtcp}
 use Rattle.datagram.specs.Naming.{heard_size, source_named}
-use Rattle.replay.specs.declared.shown.Shown.{Shown}
+use Rattle.replay.specs.declared.last_packets.LastPacket.{LastPacket}
 
-lines_joined : (s : Shown) (said : ℕ) (xs ys : List Given)
-    → lines_behind s said (xs ++ ys) ≡ lines_behind s said xs ++ lines_behind s (said_behind said xs) ys
-lines_joined s said [] ys = refl
-lines_joined s said (x ∷ xs) ys =
-    ap (λ (t : List ℕ). heading s said x.cause ++ (told_line x.told ++ t)) (lines_joined s x.cause.number xs ys)
-    ∙ (ap (λ (t : List ℕ). heading s said x.cause ++ t)
-    (sym (append_assoc (told_line x.told) (lines_behind s x.cause.number xs) (lines_behind s (said_behind x.cause.number xs) ys)))
-    ∙ sym (append_assoc (heading s said x.cause) (told_line x.told ++ lines_behind s x.cause.number xs) (lines_behind s (said_behind x.cause.number xs) ys)))
+lines_joined : (v : Scene) (t : Trail) (xs ys : List Given)
+    → lines_behind v t (xs ++ ys) ≡ lines_behind v t xs ++ lines_behind v (trail_behind v t xs) ys
+lines_joined v t [] ys = refl
+lines_joined v t (x ∷ xs) ys =
+    ap (λ (text : List ℕ). lines_at v t x ++ text) (lines_joined v (trail_after v t x) xs ys)
+    ∙ sym (append_assoc (lines_at v t x) (lines_behind v (trail_after v t x) xs) (lines_behind v (trail_behind v (trail_after v t x) xs) ys))
 
-said_joined : (said : ℕ) (xs ys : List Given) → said_behind said (xs ++ ys) ≡ said_behind (said_behind said xs) ys
-said_joined said [] ys = refl
-said_joined said (x ∷ xs) ys = said_joined x.cause.number xs ys
+trail_joined : (v : Scene) (t : Trail) (xs ys : List Given) → trail_behind v t (xs ++ ys) ≡ trail_behind v (trail_behind v t xs) ys
+trail_joined v t [] ys = refl
+trail_joined v t (x ∷ xs) ys = trail_joined v (trail_after v t x) xs ys
 
-pub none_printed : (c : Configuration) (s : Shown) (said : ℕ) (old : Option (List ℕ)) → PrintsGiven c s said [] said old old
-none_printed c s said old = record { printed = Appends-nil old; ends = refl }
+pub none_printed : (v : Scene) (t : Trail) (old : Option (List ℕ)) → PrintsGiven v t [] t old old
+none_printed v t old = record { printed = Appends-nil old; ends = refl }
 
-pub more_printed : (c : Configuration) (s : Shown) (a b e : ℕ) (xs ys : List Given) (old mid new : Option (List ℕ))
-    → PrintsGiven c s a xs b old mid → PrintsGiven c s b ys e mid new → PrintsGiven c s a (xs ++ ys) e old new
-more_printed c s a b e xs ys old mid new p q =
-    let kept = filter-append (is_shown c s) xs ys in
-    let behind = subst (λ (n : ℕ). Appends mid new (lines_behind s n (shown_of c s ys))) p.ends q.printed in
-    let both = Appends-trans old mid new (lines_behind s a (shown_of c s xs)) (lines_behind s (said_behind a (shown_of c s xs)) (shown_of c s ys)) p.printed behind in
+pub more_printed : (v : Scene) (a b e : Trail) (xs ys : List Given) (old mid new : Option (List ℕ))
+    → PrintsGiven v a xs b old mid → PrintsGiven v b ys e mid new → PrintsGiven v a (xs ++ ys) e old new
+more_printed v a b e xs ys old mid new p q =
+    let behind = subst (λ (t : Trail). Appends mid new (lines_behind v t ys)) p.ends q.printed in
+    let both = Appends-trans old mid new (lines_behind v a xs) (lines_behind v (trail_behind v a xs) ys) p.printed behind in
     record {
-      printed = subst (Appends old new) (sym (ap (lines_behind s a) kept ∙ lines_joined s a (shown_of c s xs) (shown_of c s ys))) both;
-      ends = q.ends ∙ (ap (λ (n : ℕ). said_behind n (shown_of c s ys)) p.ends ∙ (sym (said_joined a (shown_of c s xs) (shown_of c s ys)) ∙ ap (said_behind a) (sym kept)));
+      printed = subst (Appends old new) (sym (lines_joined v a xs ys)) both;
+      ends = q.ends ∙ (ap (λ (t : Trail). trail_behind v t ys) p.ends ∙ sym (trail_joined v a xs ys));
     }
 
-pub one_printed : (c : Configuration) (s : Shown) (said : ℕ) (g : Given) (old new : Option (List ℕ)) → is_shown c s g ≡ true
-    → Appends old new (heading s said g.cause ++ told_line g.told) → PrintsGiven c s said (g ∷ []) g.cause.number old new
-one_printed c s said g old new shown p =
-    let kept : shown_of c s (g ∷ []) ≡ g ∷ [] = cond-true (is_shown c s g) (g ∷ []) [] shown in
-    let text = ap (λ (t : List ℕ). heading s said g.cause ++ t) (sym (append-nil (told_line g.told))) in
+-- one: the gaps that end there, and its own line
+pub one_told : (v : Scene) (said behind : ℕ) (last then_last : List LastPacket) (g : Given) (gaps : List ℕ) (old mid new : Option (List ℕ))
+    → Appends old mid gaps → Appends mid new (shown_line v said g) → lines_at v (trail said last) g ≡ gaps ++ shown_line v said g
+    → trail behind then_last ≡ trail_after v (trail said last) g
+    → PrintsGiven v (trail said last) (g ∷ []) (trail behind then_last) old new
+one_told v said behind last then_last g gaps old mid new p q lines ends = record {
+  printed = subst (Appends old new) (sym (append-nil (lines_at v (trail said last) g)))
+      (subst (Appends old new) (sym lines) (Appends-trans old mid new gaps (shown_line v said g) p q));
+  ends = ends;
+}
+
+-- something that the machine gave out
+pub out_told : (v : Scene) (said behind : ℕ) (last then_last : List LastPacket) (cause : Cause) (out : Out) (old mid new : Option (List ℕ))
+    → Appends old mid (gap_before v last cause (leg_sent v.table out))
+    → Appends mid new (shown_line v said (record { cause = cause; told = an_out out }))
+    → behind ≡ said_after v said (record { cause = cause; told = an_out out })
+    → then_last ≡ packets_after last (leg_sent v.table out) (packet_at cause)
+    → PrintsGiven v (trail said last) (record { cause = cause; told = an_out out } ∷ []) (trail behind then_last) old new
+out_told v said behind last then_last cause out old mid new p q said_is last_is =
+    one_told v said behind last then_last (record { cause = cause; told = an_out out }) (gap_before v last cause (leg_sent v.table out)) old mid new p q refl
+    (ap (λ (n : ℕ). trail n then_last) said_is
+    ∙ ap (λ (ps : List LastPacket). trail (said_after v said (record { cause = cause; told = an_out out })) ps) last_is)
+
+-- what has no gap: its line is shown, or it isn't
+told_shown : (v : Scene) (said : ℕ) (last : List LastPacket) (g : Given) (text : List ℕ) (old new : Option (List ℕ)) → is_shown v g ≡ true
+    → shown_line v said g ≡ cond (is_shown v g) text [] → lines_at v (trail said last) g ≡ shown_line v said g
+    → trail_after v (trail said last) g ≡ trail (said_after v said g) last
+    → Appends old new text → PrintsGiven v (trail said last) (g ∷ []) (trail g.cause.number last) old new
+told_shown v said last g text old new shown is lines ends p =
+    let line : shown_line v said g ≡ text = is ∙ cond-true (is_shown v g) text [] shown in
+    let number : said_after v said g ≡ g.cause.number = cond-true (is_shown v g) g.cause.number said shown in
     record {
-      printed = subst (λ (gs : List Given). Appends old new (lines_behind s said gs)) (sym kept) (subst (Appends old new) text p);
-      ends = ap (said_behind said) (sym kept);
+      printed = subst (Appends old new) (sym (append-nil (lines_at v (trail said last) g) ∙ (lines ∙ line))) p;
+      ends = sym (ends ∙ ap (λ (n : ℕ). trail n last) number);
     }
 
-pub one_passed : (c : Configuration) (s : Shown) (said : ℕ) (g : Given) (old : Option (List ℕ)) → is_shown c s g ≡ false
-    → PrintsGiven c s said (g ∷ []) said old old
-one_passed c s said g old hidden =
-    let kept : shown_of c s (g ∷ []) ≡ [] = cond-false (is_shown c s g) (g ∷ []) [] hidden in
+told_hidden : (v : Scene) (said : ℕ) (last : List LastPacket) (g : Given) (text : List ℕ) (old : Option (List ℕ)) → is_shown v g ≡ false
+    → shown_line v said g ≡ cond (is_shown v g) text [] → lines_at v (trail said last) g ≡ shown_line v said g
+    → trail_after v (trail said last) g ≡ trail (said_after v said g) last
+    → PrintsGiven v (trail said last) (g ∷ []) (trail said last) old old
+told_hidden v said last g text old hidden is lines ends =
+    let line : shown_line v said g ≡ [] = is ∙ cond-false (is_shown v g) text [] hidden in
+    let number : said_after v said g ≡ said = cond-false (is_shown v g) g.cause.number said hidden in
     record {
-      printed = subst (λ (gs : List Given). Appends old old (lines_behind s said gs)) (sym kept) (Appends-nil old);
-      ends = ap (said_behind said) (sym kept);
+      printed = subst (Appends old old) (sym (append-nil (lines_at v (trail said last) g) ∙ (lines ∙ line))) (Appends-nil old);
+      ends = sym (ends ∙ ap (λ (n : ℕ). trail n last) number);
     }
+
+-- the line of an event
+pub event_printed : (v : Scene) (said : ℕ) (last : List LastPacket) (cause : Cause) (is_new : Bool) (old new : Option (List ℕ)) → is_new ≡ true
+    → is_shown v (record { cause = cause; told = an_event }) ≡ true → Appends old new (new_line v said cause)
+    → PrintsGiven v (trail said last) (given_at cause (event_told is_new)) (trail cause.number last) old new
+event_printed v said last cause true old new is shown p =
+    told_shown v said last (record { cause = cause; told = an_event }) (new_line v said cause) old new shown refl refl refl p
+event_printed v said last cause false old new is shown p = cc
+
+pub event_hidden : (v : Scene) (said : ℕ) (last : List LastPacket) (cause : Cause) (is_new : Bool) (old : Option (List ℕ)) → is_new ≡ true
+    → is_shown v (record { cause = cause; told = an_event }) ≡ false
+    → PrintsGiven v (trail said last) (given_at cause (event_told is_new)) (trail said last) old old
+event_hidden v said last cause true old is hidden =
+    told_hidden v said last (record { cause = cause; told = an_event }) (new_line v said cause) old hidden refl refl refl
+event_hidden v said last cause false old is hidden = cc
+
+-- no event came
+pub event_passed : (v : Scene) (said : ℕ) (last : List LastPacket) (cause : Cause) (is_new : Bool) (old : Option (List ℕ)) → is_new ≡ false
+    → PrintsGiven v (trail said last) (given_at cause (event_told is_new)) (trail said last) old old
+event_passed v said last cause true old is = cc
+event_passed v said last cause false old is = none_printed v (trail said last) old
+
+-- the line of a set
+pub set_printed : (v : Scene) (said : ℕ) (last : List LastPacket) (cause : Cause) (text : List ℕ) (old new : Option (List ℕ))
+    → is_shown v (record { cause = cause; told = a_set text }) ≡ true → Appends old new (heading v said cause ++ text)
+    → PrintsGiven v (trail said last) (given_at cause (a_set text ∷ [])) (trail cause.number last) old new
+set_printed v said last cause text old new shown p =
+    told_shown v said last (record { cause = cause; told = a_set text }) (heading v said cause ++ text) old new shown refl refl refl p
+
+pub set_hidden : (v : Scene) (said : ℕ) (last : List LastPacket) (cause : Cause) (text : List ℕ) (old : Option (List ℕ))
+    → is_shown v (record { cause = cause; told = a_set text }) ≡ false
+    → PrintsGiven v (trail said last) (given_at cause (a_set text ∷ [])) (trail said last) old old
+set_hidden v said last cause text old hidden =
+    told_hidden v said last (record { cause = cause; told = a_set text }) (heading v said cause ++ text) old hidden refl refl refl
+
+-- the gaps that last when the script is over
+pub end_printed : (v : Scene) (said : ℕ) (last : List LastPacket) (cause : Cause) (old new : Option (List ℕ))
+    → Appends old new (open_gaps v last cause (length v.table.legs))
+    → PrintsGiven v (trail said last) (given_at cause (the_end ∷ [])) (trail said last) old new
+end_printed v said last cause old new p =
+    let g : Given = record { cause = cause; told = the_end } in
+    one_told v said said last last g (open_gaps v last cause (length v.table.legs)) old new new p (Appends-nil new) refl refl
+
+-- the event first, then what the machine gave out
+pub both_printed : (v : Scene) (a b e : Trail) (cause : Cause) (first : List Told) (outs : List Out) (old mid new : Option (List ℕ))
+    → PrintsGiven v a (given_at cause first) b old mid → PrintsGiven v b (given_at cause (map an_out outs)) e mid new
+    → PrintsGiven v a (given_at cause (first ++ map an_out outs)) e old new
+both_printed v a b e cause first outs old mid new p q =
+    let of_it : Told → Given = λ (t : Told). record { cause = cause; told = t } in
+    subst (λ (gs : List Given). PrintsGiven v a gs e old new) (sym (map-append of_it first (map an_out outs)))
+    (more_printed v a b e (given_at cause first) (given_at cause (map an_out outs)) old mid new p q)
 
 -- one out more
 given_more : (cause : Cause) (outs : List Out) (i : ℕ) (d : Out) → i < length outs
@@ -69,13 +145,13 @@ given_more cause outs i d below =
     ap (λ (xs : List Out). given_at cause (map an_out xs)) (take_more outs i d below)
     ∙ (ap (map of_it) (map-append an_out (take i outs) (x ∷ [])) ∙ map-append of_it (map an_out (take i outs)) (an_out x ∷ []))
 
-pub out_printed : (c : Configuration) (s : Shown) (cause : Cause) (a b : ℕ) (outs : List Out) (i : ℕ) (d : Out) (old mid new : Option (List ℕ)) → i < length outs
-    → PrintsGiven c s a (given_at cause (map an_out (take i outs))) b old mid
-    → (e : ℕ) → PrintsGiven c s b (record { cause = cause; told = an_out (get_or outs i d) } ∷ []) e mid new
-    → PrintsGiven c s a (given_at cause (map an_out (take (i + 1) outs))) e old new
-out_printed c s cause a b outs i d old mid new below p e q =
-    subst (λ (gs : List Given). PrintsGiven c s a gs e old new) (sym (given_more cause outs i d below))
-    (more_printed c s a b e (given_at cause (map an_out (take i outs))) (record { cause = cause; told = an_out (get_or outs i d) } ∷ []) old mid new p q)
+pub out_printed : (v : Scene) (cause : Cause) (a b : Trail) (outs : List Out) (i : ℕ) (d : Out) (old mid new : Option (List ℕ)) → i < length outs
+    → PrintsGiven v a (given_at cause (map an_out (take i outs))) b old mid
+    → (e : Trail) → PrintsGiven v b (record { cause = cause; told = an_out (get_or outs i d) } ∷ []) e mid new
+    → PrintsGiven v a (given_at cause (map an_out (take (i + 1) outs))) e old new
+out_printed v cause a b outs i d old mid new below p e q =
+    subst (λ (gs : List Given). PrintsGiven v a gs e old new) (sym (given_more cause outs i d below))
+    (more_printed v a b e (given_at cause (map an_out (take i outs))) (record { cause = cause; told = an_out (get_or outs i d) } ∷ []) old mid new p q)
 
 -- ---- sources
 

@@ -1,6 +1,9 @@
 pub mod ByFile
+pub mod Head
+pub mod LastPackets
 pub mod OutText
 pub mod Printing
 pub mod Replay
 pub mod Script
 pub mod Shown
+pub mod Utc

@@ -1,13 +1,14 @@
 -- What is printed of what a line gives, after what stands there.
 use Rattle.std.specs.Prelude.{◌≡◌, ℕ, List, Option}
 use Rattle.std.specs.Io.KnownBytes.{Appends}
-use Rattle.settings.specs.Settings.{Configuration}
-use Rattle.replay.specs.Shown.{Given, lines_behind, said_behind, shown_of}
-use Rattle.replay.specs.declared.shown.Shown.{Shown}
+use Rattle.replay.specs.Shown.{Given, Scene, Trail, lines_behind, trail_behind}
+use Rattle.replay.specs.declared.printing.Choice.{Choice}
 
--- What is shown of this is printed; what stands before it follows from the event of one number, and it ends with what follows from
--- that of another.
-pub record PrintsGiven (c : Configuration) (s : Shown) (said : ℕ) (given : List Given) (behind : ℕ)
+abbrev pub scene_of : Choice → Scene
+scene_of choice = record { table = choice.links.now; shown = choice.shown; clock = choice.clock }
+
+-- What is shown of this is printed, beside the gaps that end there: from one trail to another.
+pub record PrintsGiven (v : Scene) (a : Trail) (given : List Given) (b : Trail)
     (old new : Option (List ℕ)) : Type 0 where
-  pub printed : Appends old new (lines_behind s said (shown_of c s given))
-  pub ends : behind ≡ said_behind said (shown_of c s given)
+  pub printed : Appends old new (lines_behind v a given)
+  pub ends : b ≡ trail_behind v a given

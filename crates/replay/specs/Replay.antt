@@ -2,6 +2,7 @@
 use Rattle.std.specs.Prelude.{◌≡◌, ◌≢◌, ◌⊎◌, ℕ, ◌+◌, zero, suc, Bool, true, false, List, [], ◌∷◌, ◌++◌, length, map, slice_get, Option, None, Some, IfSome, string_bytes}
 use Rattle.std.specs.Io.KnownBytes.{Appends, Keeps}
 use Rattle.tmmbr_tuple.specs.declared.ssrc.Ssrc.{Ssrc}
+use Rattle.settings.specs.Links.{table_of}
 use Rattle.settings.specs.Settings.{Configuration}
 use Rattle.bounding_set.specs.State.{announced_of}
 use Rattle.desk.specs.State.{DeskState}
@@ -30,8 +31,10 @@ use Rattle.replay.specs.declared.script.ScriptLine.TheVariants.{Skipped, Command
 use Rattle.request_text.specs.BoundText.{refused_text, announced_line}
 use Rattle.request_text.specs.Lines.{lines_of}
 use Rattle.replay.specs.Script.{script_line_of}
+use Rattle.replay.specs.Head.{clock_in}
 use Rattle.replay.specs.Printing.{PrintsGiven}
-use Rattle.replay.specs.Shown.{Cause, Given, Told, a_set, an_out, cause_after, cause_of, given_at, no_cause, shown_text}
+use Rattle.replay.specs.Shown.{Cause, Given, Scene, Told, a_set, all_told, an_out, cause_after, cause_of, event_told, given_at, no_cause, shown_text, the_end, trail}
+use Rattle.replay.specs.declared.last_packets.LastPacket.{LastPacket}
 use Rattle.replay.specs.declared.shown.Shown.{Shown}
 
 -- ---- what is given out
@@ -106,17 +109,17 @@ pub record IsShown (c : Configuration) (w : WorldState) (p : ℕ) (text : List �
 -- a command leads to this world, and this is told
 abbrev pub CommandPlays : Configuration → WorldState → Command → WorldState → List Told → Type 0
 CommandPlays c w (Do event) next told =
-    (outs : List Out) × HasRun (event ∷ []) w [] next outs × (told ≡ map an_out outs)
+    (outs : List Out) × HasRun (event ∷ []) w [] next outs × (told ≡ all_told (Do event) outs)
 CommandPlays c w Settle next told =
-    (outs : List Out) × Settles c.workers w outs next × (told ≡ map an_out outs)
+    (outs : List Out) × Settles c.workers w outs next × (told ≡ all_told Settle outs)
 CommandPlays c w Follow next told =
-    (outs : List Out) × Follows c.workers w outs next × (told ≡ map an_out outs)
+    (outs : List Out) × Follows c.workers w outs next × (told ≡ all_told Follow outs)
 CommandPlays c w (Show p) next told =
     (text : List ℕ) × IsShown c w p text × (next ≡ w) × (told ≡ a_set text ∷ [])
 
 -- what a command gives, as it is told
 abbrev pub told_in : Gives → List Told
-told_in (Outs outs) = map an_out outs.items
+told_in (Outs is_event outs) = event_told is_event ++ map an_out outs.items
 told_in (Set text) = a_set (string_bytes text) ∷ []
 
 -- ---- a script
@@ -137,19 +140,22 @@ LinePlays c line w next told = ScriptLinePlays c w (script_line_of (numbers_of c
 abbrev pub cause_behind : Configuration → ℕ → List ℕ → Cause → Cause
 cause_behind c n line before = cause_after n line (script_line_of (numbers_of c) line) before
 
--- A line leads to this world, and what is shown of what it gives is printed: from here to there.
-pub record PrintsLine (c : Configuration) (s : Shown) (n : ℕ) (line : List ℕ) (w next : WorldState)
-    (here there : Progress) (old new : Option (List ℕ)) : Type 0 where
+-- A line leads to this world, and what is shown of what it gives is printed: from here to there. The last packets of the legs were
+-- these, and then those.
+pub record PrintsLine (c : Configuration) (v : Scene) (n : ℕ) (line : List ℕ) (w next : WorldState)
+    (here there : Progress) (last then_last : List LastPacket) (old new : Option (List ℕ))
+    : Type 0 where
   pub told : List Told
   pub plays : LinePlays c line w next told
   pub latest : cause_of there.latest ≡ cause_behind c n line (cause_of here.latest)
-  pub printed : PrintsGiven c s here.said (given_at (cause_of there.latest) told) there.said old new
+  pub printed : PrintsGiven v (trail here.said last) (given_at (cause_of there.latest) told)
+      (trail there.said then_last) old new
 
 -- Lines, of which the first has this number, give this, after the latest event before them; they are played to their end, or up to
--- the line of the number that can't be read.
+-- the line of the number that can't be read. That they are over is told last.
 abbrev pub LinesPlay : Configuration → ℕ → Cause → List (List ℕ) → WorldState → List Given
     → Option ℕ → Type 0
-LinesPlay c n cause [] w given stopped = (given ≡ []) × (stopped ≡ None)
+LinesPlay c n cause [] w given stopped = (given ≡ given_at cause (the_end ∷ [])) × (stopped ≡ None)
 LinesPlay c n cause (line ∷ lines) w given stopped =
     ((next : WorldState) × (told : List Told) × (others : List Given) × LinePlays c line w next told
     × LinesPlay c (n + 1) (cause_behind c n line cause) lines next others stopped
@@ -165,21 +171,40 @@ pub record Plays (c : Configuration) (script : List ℕ) (given : List Given)
 
 -- ---- what the program prints
 
+-- By which legs what a script gives is shown, what is asked for, and what the script says of the wall clock.
+abbrev pub scene : Configuration → Shown → List ℕ → Scene
+scene c s script = record { table = table_of c; shown = s; clock = clock_in s.utc script }
+
 -- The whole script was played, and the text of what is shown of that is printed.
-pub record PrintsReplay (c : Configuration) (s : Shown) (script : List ℕ)
+pub record PrintsLines (c : Configuration) (v : Scene) (script : List ℕ)
     (old new : Option (List ℕ)) : Type 0 where
   pub given : List Given
   pub plays : Plays c script given None
-  pub printed : Appends old new (shown_text c s given)
+  pub printed : Appends old new (shown_text v given)
 
 -- The script was played up to its first line that can't be read: the text of what is shown of that is printed.
-pub record StopsReplay (c : Configuration) (s : Shown) (script : List ℕ) (line : ℕ)
+pub record StopsLines (c : Configuration) (v : Scene) (script : List ℕ) (line : ℕ)
     (old new : Option (List ℕ)) : Type 0 where
   pub given : List Given
   pub plays : Plays c script given (Some line)
-  pub printed : Appends old new (shown_text c s given)
+  pub printed : Appends old new (shown_text v given)
 
 -- if a script isn't played to its end, one of its lines can't be read, or memory is wanting, or a read or a write failed
+abbrev pub FailsLines : Configuration → Scene → List ℕ → Option (List ℕ) → Option (List ℕ) → Failure
+    → Type 0
+FailsLines c v script old new NoMemory = Unit {0}
+FailsLines c v script old new Io = Unit {0}
+FailsLines c v script old new (RefusedLine line fault) =
+    (fault ≡ Text) × StopsLines c v script line old new
+
+abbrev pub PrintsReplay : Configuration → Shown → List ℕ → Option (List ℕ) → Option (List ℕ) → Type 0
+PrintsReplay c s script old new = PrintsLines c (scene c s script) script old new
+
+abbrev pub StopsReplay : Configuration → Shown → List ℕ → ℕ → Option (List ℕ) → Option (List ℕ)
+    → Type 0
+StopsReplay c s script line old new = StopsLines c (scene c s script) script line old new
+
+-- the same of a script, if it could be read
 abbrev pub FailsReplay : Configuration → Shown → Option (List ℕ) → Option (List ℕ)
     → Option (List ℕ) → Failure → Type 0
 FailsReplay c s script old new NoMemory = Unit {0}

@@ -1,16 +1,35 @@
 //! The latest event of a script.
 
 ghost use Rattle.std.specs.Prelude.{◌≡◌};
-ghost use Rattle.replay.specs.Shown.{cause_after, cause_of, command_moment, event_moment, no_cause, script_line_moment};
+ghost use Rattle.replay.specs.Shown.{cause_after, cause_of, command_input, event_input, no_cause, packet_at, script_line_input};
 
+use crate::last_packets::LastPacket;
 use crate::script::{Command, ScriptLine};
 use events::Event;
 
-/// What came from outside last: the number of its line, from 1, or 0 before anything came; its moment, in milliseconds, and the line.
+/// What comes from outside by a line.
+#[derive(Clone, Copy, PartialEq, Eq)]
+pub enum Incoming {
+    /// It is a moment, and nothing more.
+    Moment,
+    /// A datagram of the endpoint with this number.
+    Datagram(u16),
+    /// A selection of the leg with this number.
+    Selection(u16),
+}
+
+/// What comes from outside, and its moment, in milliseconds.
+#[derive(Clone, Copy, PartialEq, Eq)]
+pub struct DatedInput {
+    pub moment: u64,
+    pub incoming: Incoming,
+}
+
+/// What came from outside last: the number of its line, from 1, or 0 before anything came; what it is, and the line.
 #[derive(Clone, Copy)]
 pub struct Latest<'t> {
     pub(crate) number: u64,
-    pub(crate) moment: u64,
+    pub(crate) input: DatedInput,
     pub(crate) line: &'t [u8],
 }
 
@@ -21,7 +40,10 @@ impl<'t> Latest<'t> {
     {
         Latest {
             number: 0,
-            moment: 0,
+            input: DatedInput {
+                moment: 0,
+                incoming: Incoming::Moment,
+            },
             line: &[],
         }
     }
@@ -30,41 +52,63 @@ impl<'t> Latest<'t> {
     pub fn after(self, number: u64, line: &'t [u8], reading: &ScriptLine) -> Latest<'t>
         ensures { cause_of result ≡ cause_after number line.now reading.now (cause_of self.entry) }
     {
-        match moment_in(reading) {
-            Some(moment) => Latest {
+        match input_in(reading) {
+            Some(input) => Latest {
                 number,
-                moment,
+                input,
                 line,
             },
             None => self,
         }
     }
+
+    /// A packet that follows from this.
+    pub(crate) fn packet(self) -> LastPacket
+        ensures { result ≡ packet_at (cause_of self.entry) }
+    {
+        LastPacket {
+            number: self.number,
+            moment: self.input.moment,
+        }
+    }
 }
 
-/// At which moment something comes from outside by a line, if anything does.
-fn moment_in(reading: &ScriptLine) -> Option<u64>
-    ensures { result ≡ script_line_moment reading.now }
+/// What comes from outside by a line, if anything does.
+fn input_in(reading: &ScriptLine) -> Option<DatedInput>
+    ensures { result ≡ script_line_input reading.now }
 {
     match reading {
-        ScriptLine::Command(command) => command_moment(command),
+        ScriptLine::Command(command) => command_input(command),
         ScriptLine::Skipped | ScriptLine::Unreadable => None,
     }
 }
 
-fn command_moment(command: &Command) -> Option<u64>
-    ensures { result ≡ command_moment command.now }
+/// The same by a command.
+pub(crate) fn command_input(command: &Command) -> Option<DatedInput>
+    ensures { result ≡ command_input command.now }
 {
     match command {
-        Command::Do(event) => event_moment(event),
+        Command::Do(event) => event_input(event),
         Command::Settle | Command::Follow | Command::Show(_) => None,
     }
 }
 
-fn event_moment(event: &Event) -> Option<u64>
-    ensures { result ≡ event_moment event.now }
+fn event_input(event: &Event) -> Option<DatedInput>
+    ensures { result ≡ event_input event.now }
 {
     match event {
-        Event::Hear(moment, ..) | Event::Tick(moment) | Event::Select(moment, ..) => Some(*moment),
+        Event::Hear(moment, endpoint, _) => Some(DatedInput {
+            moment: *moment,
+            incoming: Incoming::Datagram(*endpoint),
+        }),
+        Event::Tick(moment) => Some(DatedInput {
+            moment: *moment,
+            incoming: Incoming::Moment,
+        }),
+        Event::Select(moment, leg, _) => Some(DatedInput {
+            moment: *moment,
+            incoming: Incoming::Selection(*leg),
+        }),
         Event::Ingress | Event::Work(_) => None,
     }
 }

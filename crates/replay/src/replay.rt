@@ -1,29 +1,34 @@
 //! `sfu replay`: plays a script through the machine.
 
-ghost use Rattle.std.specs.Prelude.{◌≡◌, ◌∷◌, ◌<◌, [], Some, length, string_bytes, IfErr, IfOk, IfSome, OnOk};
+ghost use Rattle.std.specs.Prelude.{◌≡◌, ◌∷◌, ◌++◌, ◌<◌, ℕ, [], Some, length, map, string_bytes, IfErr, IfOk, IfSome, OnOk};
 ghost use Rattle.core_steps.specs.Run.{HasRun};
 ghost use Rattle.core_steps.specs.Settling.{ingress_left};
-ghost use Rattle.replay.specs.Printing.{PrintsGiven};
+ghost use Rattle.replay.specs.Printing.{PrintsGiven, scene_of};
 ghost use Rattle.replay.specs.Script.{IsAmong};
-ghost use Rattle.replay.specs.Shown.{all_shown, cause_of, given_at};
-ghost use Rattle.replay.specs.Replay.{CommandPlays, EndsScript, FailsLine, FailsReplay, Follows, GivesOut, IngressDrains, IsOutside, IsShown, PrintsLine, PrintsReplay, Rounds, Settles, WorkerDrains, WorkersDrain, numbers_of, told_in};
+ghost use Rattle.replay.specs.Shown.{all_shown, an_out, cause_of, event_told, given_at, the_end, trail};
+ghost use Rattle.replay.specs.Replay.{CommandPlays, EndsScript, FailsLine, FailsLines, FailsReplay, Follows, GivesOut, IngressDrains, IsOutside, IsShown, PrintsLine, PrintsLines, PrintsReplay, Rounds, Settles, WorkerDrains, WorkersDrain, numbers_of, told_in};
 
-use crate::latest::Latest;
-use crate::printing::{Choice, print_outs, print_set};
+use crate::head::clock_in;
+use crate::last_packets::LastPackets;
+use crate::latest::{Latest, command_input};
+use crate::printing::{Choice, print_end, print_event, print_outs, print_set};
 use crate::script::{Command, Numbers, ScriptLine, read_line};
 use crate::shown::Shown;
 use cli::{Failure, Status, report};
 use core_steps::{World, run};
 use events::{Event, Out};
 use request_text::{LineFault, Meter, announced_line, line_count, lines};
-use settings::Settings;
+use settings::{Links, Settings};
 use std::alloc::{AllocError, Global};
 use std::io::{Read, Write};
 
-/// What a command gives: what the machine gave out, or the line of a set.
+/// What a command gives: what the machine gave out, and whether the command is an event; or the line of a set.
 #[derive(Drop)]
 pub(crate) enum Gives {
-    Outs(Vec<Out>),
+    Outs {
+        is_event: bool,
+        outs: Vec<Out>,
+    },
     Set(String),
 }
 
@@ -48,54 +53,81 @@ pub fn replay_lines<I: Read, O: Write, E: Write>(
     ensures { EndsScript settings.now all_shown (I.remaining script.old) (O.contents writer.old)
         (O.contents writer.new) (E.contents errors.old) (E.contents errors.new) result }
 {
-    replay_metered(
-        alloc,
-        settings,
-        Shown::all(),
-        &Meter::hidden(),
-        script,
-        writer,
-        errors,
-    )
-}
-
-/// The same, but of what they give only what is to be shown is printed; and the meter is shown each line.
-pub(crate) fn replay_metered<I: Read, O: Write, E: Write>(
-    alloc: Global,
-    settings: &Settings,
-    shown: Shown,
-    meter: &Meter,
-    script: &mut I,
-    writer: &mut O,
-    errors: &mut E,
-) -> Status
-    ensures { EndsScript settings.now shown (I.remaining script.old) (O.contents writer.old)
-        (O.contents writer.new) (E.contents errors.old) (E.contents errors.new) result }
-{
-    match play(alloc, Choice { settings, shown }, meter, script, writer) {
+    match play(alloc, settings, script, writer) {
         Ok(()) => Status::Done,
         Err(failure) => report(alloc, errors, failure),
     }
 }
 
-/// Plays the whole script.
+/// The same of a script that is this text, but of what its lines give only what is to be shown is printed; and the meter is shown each line.
+pub(crate) fn replay_text<O: Write, E: Write>(
+    alloc: Global,
+    settings: &Settings,
+    shown: Shown,
+    meter: &Meter,
+    text: &[u8],
+    writer: &mut O,
+    errors: &mut E,
+) -> Status
+    ensures { EndsScript settings.now shown (Some text.now) (O.contents writer.old)
+        (O.contents writer.new) (E.contents errors.old) (E.contents errors.new) result }
+{
+    match play_text(alloc, settings, shown, meter, text, writer) {
+        Ok(()) => Status::Done,
+        Err(failure) => report(alloc, errors, failure),
+    }
+}
+
+/// Plays the whole script, of which all is shown.
 fn play<I: Read, O: Write>(
     alloc: Global,
-    choice: Choice<'_>,
-    meter: &Meter,
+    settings: &Settings,
     script: &mut I,
     writer: &mut O,
 ) -> Result<(), Failure>
     ensures done { OnOk result (IfSome (I.remaining script.old)
-        (λ text. PrintsReplay choice.entry.settings.now choice.entry.shown text (O.contents writer.old)
+        (λ text. PrintsReplay settings.now all_shown text (O.contents writer.old)
         (O.contents writer.new))) }
     ensures refused { IfErr result
-        (FailsReplay choice.entry.settings.now choice.entry.shown (I.remaining script.old)
+        (FailsReplay settings.now all_shown (I.remaining script.old)
         (O.contents writer.old) (O.contents writer.new)) }
 {
     let mut text = Vec::new(alloc);
     script.read_to_end(&mut text)?;
-    play_lines(alloc, choice, meter, text.as_slice(), writer)
+    play_text(
+        alloc,
+        settings,
+        Shown::all(),
+        &Meter::hidden(),
+        text.as_slice(),
+        writer,
+    )
+}
+
+/// Plays a text.
+fn play_text<O: Write>(
+    alloc: Global,
+    settings: &Settings,
+    shown: Shown,
+    meter: &Meter,
+    text: &[u8],
+    writer: &mut O,
+) -> Result<(), Failure>
+    ensures done { OnOk result (PrintsReplay settings.now shown text.now
+        (O.contents writer.old) (O.contents writer.new)) }
+    ensures refused { IfErr result
+        (FailsReplay settings.now shown (Some text.now) (O.contents writer.old)
+        (O.contents writer.new)) }
+{
+    let links = Links::new(alloc, settings)?;
+    let clock = clock_in(alloc, shown.utc, text)?;
+    let choice = Choice {
+        settings,
+        links: &links,
+        shown,
+        clock,
+    };
+    play_lines(alloc, choice, meter, text, writer)
 }
 
 /// Plays the lines of a text.
@@ -106,15 +138,16 @@ fn play_lines<O: Write>(
     text: &[u8],
     writer: &mut O,
 ) -> Result<(), Failure>
-    ensures done { OnOk result (PrintsReplay choice.entry.settings.now choice.entry.shown text.now
+    ensures done { OnOk result (PrintsLines choice.entry.settings.now (scene_of choice.entry) text.now
         (O.contents writer.old) (O.contents writer.new)) }
     ensures refused { IfErr result
-        (FailsReplay choice.entry.settings.now choice.entry.shown (Some text.now) (O.contents writer.old)
+        (FailsLines choice.entry.settings.now (scene_of choice.entry) text.now (O.contents writer.old)
         (O.contents writer.new)) }
 {
     let lines = lines(alloc, text)?;
     let count = line_count(lines.as_slice());
     let mut world = World::new(alloc, choice.settings)?;
+    let mut packets = LastPackets::new(alloc, choice.links.legs().len())?;
     let mut progress = Progress {
         latest: Latest::none(),
         said: 0,
@@ -123,8 +156,34 @@ fn play_lines<O: Write>(
     for line in lines.iter() {
         number += 1;
         meter.show(number, count);
-        progress = play_line(alloc, choice, &mut world, line, number, progress, writer)?;
+        progress = play_line(
+            alloc,
+            choice,
+            &mut world,
+            line,
+            number,
+            progress,
+            &mut packets,
+            writer,
+        )?;
     }
+    end_all(alloc, choice, progress.latest, &packets, writer)
+}
+
+/// Prints what is shown once the script is over, as `print_end` does.
+fn end_all<O: Write>(
+    alloc: Global,
+    choice: Choice<'_>,
+    latest: Latest<'_>,
+    packets: &LastPackets,
+    writer: &mut O,
+) -> Result<(), Failure>
+    ensures printed { (said : ℕ) → OnOk result (PrintsGiven (scene_of choice.entry)
+        (trail said packets.now) (given_at (cause_of latest.entry) (the_end ∷ []))
+        (trail said packets.now) (O.contents writer.old) (O.contents writer.new)) }
+    ensures outside { IfErr result IsOutside }
+{
+    print_end(alloc, choice, latest, packets, writer)?;
     Ok(())
 }
 
@@ -136,12 +195,14 @@ fn play_line<'t, O: Write>(
     line: &'t [u8],
     number: u64,
     progress: Progress<'t>,
+    packets: &mut LastPackets,
     writer: &mut O,
 ) -> Result<Progress<'t>, Failure>
     requires { length world.old.desks ≡ length choice.settings.now.endpoints }
     ensures played { IfOk result (λ next.
-        PrintsLine choice.entry.settings.now choice.entry.shown number line.now world.old world.new
-        progress.entry next (O.contents writer.old) (O.contents writer.new)) }
+        PrintsLine choice.entry.settings.now (scene_of choice.entry) number line.now world.old
+        world.new progress.entry next packets.old packets.new (O.contents writer.old)
+        (O.contents writer.new)) }
     ensures stopped { IfErr result
         (FailsLine choice.entry.settings.now number line.now (O.contents writer.old)
         (O.contents writer.new)) }
@@ -156,7 +217,15 @@ fn play_line<'t, O: Write>(
         }),
         ScriptLine::Command(command) => {
             let gives = play_command(alloc, choice.settings, world, command)?;
-            let said = print_all(alloc, choice, latest, progress.said, &gives, writer)?;
+            let said = print_all(
+                alloc,
+                choice,
+                latest,
+                progress.said,
+                &gives,
+                packets,
+                writer,
+            )?;
             Ok(Progress { latest, said })
         }
         ScriptLine::Unreadable => Err(Failure::Refused {
@@ -173,17 +242,46 @@ fn print_all<O: Write>(
     latest: Latest<'_>,
     said: u64,
     gives: &Gives,
+    packets: &mut LastPackets,
     writer: &mut O,
 ) -> Result<u64, Failure>
-    ensures printed { IfOk result (λ behind. PrintsGiven choice.entry.settings.now choice.entry.shown said
-        (given_at (cause_of latest.entry) (told_in gives.now)) behind (O.contents writer.old)
-        (O.contents writer.new)) }
+    ensures printed { IfOk result (λ behind. PrintsGiven (scene_of choice.entry)
+        (trail said packets.old) (given_at (cause_of latest.entry) (told_in gives.now))
+        (trail behind packets.new) (O.contents writer.old) (O.contents writer.new)) }
     ensures outside { IfErr result IsOutside }
 {
-    let behind = match gives {
-        Gives::Outs(outs) => print_outs(alloc, choice, latest, said, outs.as_slice(), writer)?,
-        Gives::Set(text) => print_set(choice, latest, said, text.as_str(), writer)?,
-    };
+    match gives {
+        Gives::Outs { is_event, outs } => {
+            let outs = outs.as_slice();
+            print_both(alloc, choice, latest, said, *is_event, outs, packets, writer)
+        }
+        Gives::Set(text) => {
+            let behind = print_set(alloc, choice, latest, said, text.as_str(), writer)?;
+            Ok(behind)
+        }
+    }
+}
+
+/// The same of the latest event, if this is new, and of what the machine gave out.
+#[tactic(auto, using(crate::proofs::ShownLemmas::both_printed))]
+fn print_both<O: Write>(
+    alloc: Global,
+    choice: Choice<'_>,
+    latest: Latest<'_>,
+    said: u64,
+    is_event: bool,
+    outs: &[Out],
+    packets: &mut LastPackets,
+    writer: &mut O,
+) -> Result<u64, Failure>
+    ensures printed { IfOk result (λ behind. PrintsGiven (scene_of choice.entry)
+        (trail said packets.old)
+        (given_at (cause_of latest.entry) (event_told is_event ++ map an_out outs.now))
+        (trail behind packets.new) (O.contents writer.old) (O.contents writer.new)) }
+    ensures outside { IfErr result IsOutside }
+{
+    let event = print_event(alloc, choice, latest, said, is_event, writer)?;
+    let behind = print_outs(alloc, choice, latest, event, outs, packets, writer)?;
     Ok(behind)
 }
 
@@ -210,6 +308,7 @@ fn play_command(
         CommandPlays settings.now world.old command world.new (told_in gives)) }
     ensures desks { OnOk result (length world.new.desks ≡ length world.old.desks) }
 {
+    let is_event = command_input(&command).is_some();
     let mut outs = Vec::new(alloc);
     match command {
         Command::Do(event) => step(world, event, &mut outs)?,
@@ -220,7 +319,7 @@ fn play_command(
             return Ok(Gives::Set(text));
         }
     }
-    Ok(Gives::Outs(outs))
+    Ok(Gives::Outs { is_event, outs })
 }
 
 /// The ingress until nothing waits for it, then each worker, by rising number, until it has nothing to do.

@@ -53,6 +53,9 @@ fn run_words<R: AllocGlobal + Files, I: Read, O: Write, E: Write>(
                 only_endpoint,
                 from,
                 events,
+                gaps,
+                utc,
+                other_settings,
             },
         ) => {
             let shown = Shown {
@@ -60,8 +63,19 @@ fn run_words<R: AllocGlobal + Files, I: Read, O: Write, E: Write>(
                 only_endpoint,
                 from_ms: from.unwrap_or(0),
                 events,
+                gaps_ms: gaps,
+                utc,
             };
-            let status = run_replay(rt, file, shown, meter, reader, writer, errors);
+            let status = run_replay(
+                rt,
+                file,
+                shown,
+                other_settings,
+                meter,
+                reader,
+                writer,
+                errors,
+            );
             explain_replay(rt, file, status, errors);
             status
         }

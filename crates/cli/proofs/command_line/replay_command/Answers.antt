@@ -13,7 +13,13 @@ returns-clause-app c =
     let app-2 : App = with_rule app-1 (number_to_rule (codes "only-endpoint") (pos 65535)) in
     let made-3 = c.asking-replay-3.ensures.shape app-2 (moment_rule (codes "from") 0) made-2 c.moment.ensures.rule c.moment.ensures.local in
     let app-3 : App = with_rule app-2 (moment_rule (codes "from") 0) in
-    c.asking.ensures.shape app-3 (flag_rule (codes "events")) made-3 c.flag.ensures.rule c.flag.ensures.local
+    let made-4 = c.asking-replay-4.ensures.shape app-3 (flag_rule (codes "events")) made-3 c.flag.ensures.rule c.flag.ensures.local in
+    let app-4 : App = with_rule app-3 (flag_rule (codes "events")) in
+    let made-5 = c.asking-replay-5.ensures.shape app-4 (moment_rule (codes "gaps") 1) made-4 c.moment-2.ensures.rule c.moment-2.ensures.local in
+    let app-5 : App = with_rule app-4 (moment_rule (codes "gaps") 1) in
+    let made-6 = c.asking-replay-6.ensures.shape app-5 (flag_rule (codes "utc")) made-5 c.flag-2.ensures.rule c.flag-2.ensures.local in
+    let app-6 : App = with_rule app-5 (flag_rule (codes "utc")) in
+    c.asking.ensures.shape app-6 (flag_rule (codes "other-settings")) made-6 c.flag-3.ensures.rule c.flag-3.ensures.local
 
 pub returns-clause-local : goal.returns-clause-local
 returns-clause-local c =
@@ -21,4 +27,7 @@ returns-clause-local c =
     let local-1 = c.asking-replay.ensures.local local-0 c.number_to.ensures.local in
     let local-2 = c.asking-replay-2.ensures.local local-1 c.number_to-2.ensures.local in
     let local-3 = c.asking-replay-3.ensures.local local-2 c.moment.ensures.local in
-    c.asking.ensures.local local-3 c.flag.ensures.local
+    let local-4 = c.asking-replay-4.ensures.local local-3 c.flag.ensures.local in
+    let local-5 = c.asking-replay-5.ensures.local local-4 c.moment-2.ensures.local in
+    let local-6 = c.asking-replay-6.ensures.local local-5 c.flag-2.ensures.local in
+    c.asking.ensures.local local-6 c.flag-3.ensures.local

@@ -12,10 +12,11 @@ returns-in_ok-get_str-in-check c = rw c.in-check.is (asked_check (found_of c.arg
 
 pub returns-in_err-get_str-in-replay : goal.returns-in_err-get_str-in-replay
 returns-in_err-get_str-in-replay c =
-    rw (c.from_residual-in_err-get_str-in-replay.ensures, c.in-replay.is) (asked_replay (found_of c.args.matches.now) None _ _ _ _ c.in_err-get_str-in-replay.ensures refl refl refl refl)
+    rw (c.from_residual-in_err-get_str-in-replay.ensures, c.in-replay.is) (asked_replay (found_of c.args.matches.now) None _ _ _ _ _ _ _ c.in_err-get_str-in-replay.ensures refl refl refl refl refl refl refl)
 
 pub returns-in_ok-get_str-in-replay : goal.returns-in_ok-get_str-in-replay
-returns-in_ok-get_str-in-replay c = rw c.in-replay.is (asked_replay (found_of c.args.matches.now) (Some c.in_ok-get_str-in-replay.field-0.now) _ _ _ _ c.in_ok-get_str-in-replay.ensures c.number_in-in-replay.ensures c.number_in-in-replay-2.ensures c.moment_in.ensures c.is_set.ensures)
+returns-in_ok-get_str-in-replay c = rw c.in-replay.is (asked_replay (found_of c.args.matches.now) (Some c.in_ok-get_str-in-replay.field-0.now) _ _ _ _ _ _ _ c.in_ok-get_str-in-replay.ensures c.number_in-in-replay.ensures c.number_in-in-replay-2.ensures c.moment_in.ensures c.is_set.ensures
+    c.moment_in-2.ensures c.is_set-2.ensures c.is_set-3.ensures)
 
 pub returns-in_err-get_str-in-page : goal.returns-in_err-get_str-in-page
 returns-in_err-get_str-in-page c =

@@ -29,7 +29,8 @@ returns-in-Ok-Replay g c =
     let here = rw words.field-0-is at words.ensures.asked in
     let ran = c.run_replay.ensures in record {
       ends = λ asked. ends_asked _ _ asked _ _ _ _ _ _ here
-          (replay_ends words.only_leg words.only_endpoint words.from words.events _ _ _ _ _ _ _ c.unwrap_or.ensures ran.ends);
+          (replay_ends words.only_leg words.only_endpoint words.from words.events words.gaps words.utc words.other_settings _ _ _ _ _ _ _
+          c.unwrap_or.ensures ran.ends);
       settings = ran.settings;
       asks = words.ensures.asks;
       understood = λ _ _. ran.understood;

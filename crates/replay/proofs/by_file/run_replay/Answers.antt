@@ -1,6 +1,5 @@
 use Rattle.std.proofs.Common.{inl, inr, sym}
 use Rattle.std.proofs.KnownBytes.{Keeps-refl}
-use Rattle.replay.proofs.ByFileLemmas.{printed_by_file, refused_by_file}
 use Rattle.replay.proofs.by_file.run_replay.Goals as goal
 
 pub returns-in-Some-clause-ends : goal.returns-in-Some-clause-ends
@@ -8,8 +7,8 @@ returns-in-Some-clause-ends g c = record {
   done = λ is. absurd (c.say_unknown.ensures.understood.0 is);
   refused = λ is. inl (record {
     file = c.in-Ok.ensures.0;
-    settings = c.in-Ok.file;
-    gives = c.in-Ok.ensures.1;
+    settings = c.in-Ok.settings.file;
+    gives = c.in-Ok.ensures.1.gives;
     whom = c.in-Some.unknown;
     lacks = sym c.in-Some.ensures;
     kept = Keeps-refl _;
@@ -18,7 +17,4 @@ returns-in-Some-clause-ends g c = record {
 }
 
 pub returns-in-Ok-clause-ends : goal.returns-in-Ok-clause-ends
-returns-in-Ok-clause-ends g c = record {
-  done = λ is. printed_by_file c.in-Ok.file c.args.shown _ _ _ c.in-Ok.ensures (c.replay_metered.ensures.done is);
-  refused = λ is. inr (refused_by_file c.in-Ok.file c.args.shown _ _ _ _ _ c.in-Ok.ensures (c.replay_metered.ensures.refused is));
-}
+returns-in-Ok-clause-ends g c = c.replay_by.ensures.ends c.in-Ok.ensures.0 c.in-Ok.ensures.1
