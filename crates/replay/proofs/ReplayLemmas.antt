@@ -1,6 +1,6 @@
 -- Lines, steps and what they print, one after the other.
 use Rattle.std.proofs.Common.{◌≡◌, ◌∙◌, ℕ, ◌+◌, ◌<◌, ◌≤◌, zero, suc, Bool, true, false, List, [], ◌∷◌, ◌++◌, map, Bor, length, drop, get_or, Option, None, Some, Result, Ok, Err, refl, sym, ap, subst, inl, inr, arith, append_assoc}
-use Rattle.std.specs.Prelude.{OnOk}
+use Rattle.std.specs.Prelude.{OnOk, is_some}
 use Rattle.std.specs.Io.KnownBytes.{Appends}
 use Rattle.std.proofs.KnownBytes.{Appends-kept, Appends-nil}
 use Rattle.std.proofs.lemmas.List.{append-nil, drop_all, length-map}
@@ -20,7 +20,10 @@ use Rattle.cli.specs.declared.status.Failure.TheVariants.{NoMemory, Refused as R
 use Rattle.replay.specs.declared.script.ScriptLine.TheVariants.{Unreadable}
 use Rattle.request_text.specs.Lines.{lines_of}
 use Rattle.replay.specs.Replay.{Drains, FailsLine, FailsLines, FailsReplay, Follows, GivesOut, IngressDrains, IsOutside, LinePlays, LinesPlay, PrintsLine, PrintsLines, PrintsReplay, Rounds, Settles, WorkerDrains, WorkersDrain, again, cause_behind, numbers_of, over, quiet, round, scene}
-use Rattle.replay.specs.Shown.{Cause, Given, Scene, Told, cause_of, first_trail, given_at, no_cause, shown_text, the_end, trail}
+use Rattle.settings.specs.Links.{LinkTable, table_of}
+use Rattle.replay.specs.Head.{clock_in}
+use Rattle.replay.specs.declared.script.Command.{Command}
+use Rattle.replay.specs.Shown.{Cause, Given, Scene, Told, all_told, an_out, cause_of, command_input, event_told, first_trail, given_at, no_cause, shown_text, the_end, trail}
 use Rattle.replay.specs.declared.last_packets.LastPacket.{LastPacket}
 use Rattle.replay.specs.declared.replay.Progress.{Progress}
 use Rattle.replay.specs.declared.shown.Shown.{Shown}
@@ -168,6 +171,22 @@ pub fails_by : (c : Configuration) (s : Shown) (v : Scene) (script : List ℕ) (
 fails_by c s v script old new NoMemory is f = tt
 fails_by c s v script old new Io is f = tt
 fails_by c s v script old new (RefusedLine n fault) is f = subst (λ (x : Scene). FailsLines c x script old new (RefusedLine n fault)) is f
+
+-- the parts of a scene
+pub scene_is : (c : Configuration) (s : Shown) (script : List ℕ) (t : LinkTable) (k : Option ℕ) → t ≡ table_of c → k ≡ clock_in s.utc script
+    → record { table = t; shown = s; clock = k } ≡ scene c s script
+scene_is c s script t k table clock =
+    ap (λ (x : LinkTable). scene_with x s k) table ∙ ap (λ (x : Option ℕ). scene_with (table_of c) s x) clock
+  where
+    scene_with : LinkTable → Shown → Option ℕ → Scene
+    scene_with x y z = record { table = x; shown = y; clock = z }
+
+-- what a command gives is told
+pub told_of : (command : Command) (is_event : Bool) (outs given : List Out) → is_event ≡ is_some (command_input command) → outs ≡ given
+    → event_told is_event ++ map an_out outs ≡ all_told command given
+told_of command is_event outs given event same =
+    ap (λ (b : Bool). event_told b ++ map an_out outs) event
+    ∙ ap (λ (os : List Out). event_told (is_some (command_input command)) ++ map an_out os) same
 
 -- ---- settling
 

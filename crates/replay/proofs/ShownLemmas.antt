@@ -1,8 +1,8 @@
 -- What is shown of lists one after the other.
-use Rattle.std.proofs.Common.{◌≡◌, ◌∙◌, ℕ, ◌+◌, ◌<◌, suc, zero, cond, drop, true, false, Bool, List, [], ◌∷◌, ◌++◌, map, length, take, get_or, Option, refl, sym, ap, subst, append_assoc}
+use Rattle.std.proofs.Common.{◌≡◌, ◌∙◌, ℕ, ◌+◌, ◌<◌, ◌≤◌, suc, cond, drop, true, false, Bool, List, [], ◌∷◌, ◌++◌, map, length, take, get_or, Option, refl, sym, ap, subst, append_assoc}
 use Rattle.std.specs.Io.KnownBytes.{Appends}
 use Rattle.std.proofs.KnownBytes.{Appends-nil, Appends-trans}
-use Rattle.std.proofs.lemmas.Bool.{cond-false, cond-true}
+use Rattle.std.proofs.lemmas.Bool.{cond-false, cond-true, le-leb, lt-leb}
 use Rattle.std.proofs.lemmas.List.{append-nil, map-append, take_more}
 use Rattle.events.specs.declared.output.Out.{Out}
 use Rattle.replay.specs.LastPackets.{packets_after}
@@ -107,15 +107,17 @@ event_passed v said last cause false old is = none_printed v (trail said last) o
 
 -- the line of a set
 pub set_printed : (v : Scene) (said : ℕ) (last : List LastPacket) (cause : Cause) (text : List ℕ) (old new : Option (List ℕ))
-    → is_shown v (record { cause = cause; told = a_set text }) ≡ true → Appends old new (heading v said cause ++ text)
+    → v.shown.from_ms ≤ cause.moment → Appends old new (heading v said cause ++ text)
     → PrintsGiven v (trail said last) (given_at cause (a_set text ∷ [])) (trail cause.number last) old new
-set_printed v said last cause text old new shown p =
+set_printed v said last cause text old new late p =
+    let shown : is_shown v (record { cause = cause; told = a_set text }) ≡ true = rw (le-leb _ _ late) refl in
     told_shown v said last (record { cause = cause; told = a_set text }) (heading v said cause ++ text) old new shown refl refl refl p
 
 pub set_hidden : (v : Scene) (said : ℕ) (last : List LastPacket) (cause : Cause) (text : List ℕ) (old : Option (List ℕ))
-    → is_shown v (record { cause = cause; told = a_set text }) ≡ false
+    → cause.moment < v.shown.from_ms
     → PrintsGiven v (trail said last) (given_at cause (a_set text ∷ [])) (trail said last) old old
-set_hidden v said last cause text old hidden =
+set_hidden v said last cause text old early =
+    let hidden : is_shown v (record { cause = cause; told = a_set text }) ≡ false = rw (lt-leb _ _ early) refl in
     told_hidden v said last (record { cause = cause; told = a_set text }) (heading v said cause ++ text) old hidden refl refl refl
 
 -- the gaps that last when the script is over

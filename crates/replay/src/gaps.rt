@@ -1,8 +1,8 @@
 //! Where no packet goes out on a leg for a while.
 
-ghost use Rattle.std.specs.Prelude.{◌≡◌, ◌<◌, ◌+◌, ◌++◌, [], length, string_bytes, IfErr, IfOk, OnOk, slice_index_or};
+ghost use Rattle.std.specs.Prelude.{◌≡◌, length, string_bytes, IfOk, OnOk};
 ghost use Rattle.std.specs.Io.KnownBytes.{Appends};
-ghost use Rattle.replay.specs.LastPackets.{no_packet};
+ghost use Rattle.datagram.specs.Naming.{source_named};
 ghost use Rattle.replay.specs.Printing.{scene_of};
 ghost use Rattle.replay.specs.Shown.{cause_of, ended_gap, gap_before, gap_line, is_gap, is_long, leg_sent, leg_taken, open_gap, open_gaps};
 
@@ -37,9 +37,7 @@ pub(crate) fn leg_sent(links: &Links, out: &Out) -> Option<u16>
 fn leg_taken(links: &Links, endpoint: u16, bytes: &[u8]) -> Option<u16>
     ensures { result ≡ leg_taken links.now endpoint bytes.now (source_named bytes.now) }
 {
-    let Some(source) = source_named(bytes) else {
-        return None;
-    };
+    let source = source_named(bytes)?;
     if is_rtcp(bytes) {
         return None;
     }

@@ -31,7 +31,7 @@ impl LastPackets {
     ghost use Rattle.replay.specs.LastPackets.{no_packet, packets_after};
 
     /// No packet went out on any of so many legs. Refused for want of memory alone.
-    pub(crate) fn new(alloc: Global, legs: usize) -> Result<LastPackets, AllocError>
+    pub fn new(alloc: Global, legs: usize) -> Result<LastPackets, AllocError>
         ensures { IfOk result (λ packets. packets ≡ replicate legs no_packet) }
     {
         let none = LastPacket {

@@ -296,6 +296,7 @@ fn numbers_of(settings: &Settings) -> Numbers
 }
 
 /// Does what a line asks for, and answers what comes of it. Refused for want of memory alone.
+#[tactic(auto, using(crate::proofs::ReplayLemmas::told_of))]
 fn play_command(
     alloc: Global,
     settings: &Settings,

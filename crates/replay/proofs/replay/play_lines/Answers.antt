@@ -1,9 +1,9 @@
-use Rattle.std.proofs.Common.{◌∙◌, [], ap, refl, sym, subst, Bor, List, ℕ, length, map, replicate, arith}
-use Rattle.std.proofs.lemmas.Result.{on_ok_weaker, err_from_is_err_and}
+use Rattle.std.proofs.Common.{◌∙◌, ap, refl, Bor, List, ℕ, length, map, replicate, arith}
+use Rattle.std.proofs.lemmas.Result.{IfErr-weaker, err_from_is_err_and, on_ok_weaker}
+use Rattle.settings.specs.declared.settings.LegSettings.{LegSettings}
 use Rattle.replay.specs.LastPackets.{no_packet}
 use Rattle.replay.specs.Printing.{scene_of}
 use Rattle.replay.specs.Shown.{trail}
-use Rattle.replay.specs.declared.last_packets.LastPacket.{LastPacket}
 use Rattle.replay.proofs.ReplayLemmas.{ends, fails, goes_on, opens, outside_fails}
 use Rattle.replay.proofs.replay.play_lines.Goals as goal
 
@@ -15,7 +15,7 @@ loop-line-init g c = record {
       c.in_ok-world.world (record { latest = c.none.result; said = 0 }) c.in_ok-packets.packets (g.O.Write.contents c.args.writer.now)
       c.in_ok-world.ensures
       (ap (map (λ (x : Bor (List ℕ)). x.now)) c.deref-line-items.ensures.value ∙ c.in_ok-lines.ensures) c.none.ensures
-      (ap (trail 0) c.in_ok-packets.ensures);
+      (ap (trail 0) (c.in_ok-packets.ensures ∙ ap (λ (legs : List LegSettings). replicate (length legs) no_packet) c.legs.ensures.value));
 }
 
 -- what stands past the last line
@@ -53,3 +53,11 @@ returns-clause-done g c =
     c.loop-line.world c.loop-line.progress c.loop-line.packets (contents c.args.writer.now) (contents c.loop-line.writer)
     (contents c.end_all.new.writer) c.loop-line-test.false c.loop-line.invariant.played printed)
     (c.end_all.ensures.printed c.loop-line.progress.said)
+
+pub returns-clause-refused : goal.returns-clause-refused
+returns-clause-refused g c =
+    let contents = g.O.Write.contents in
+    IfErr-weaker c.end_all.result _ _
+    (λ failure outside. outside_fails c.args.choice.settings.now (scene_of c.args.choice) c.args.text.now (contents c.args.writer.now)
+    (contents c.end_all.new.writer) failure outside)
+    c.end_all.ensures.outside

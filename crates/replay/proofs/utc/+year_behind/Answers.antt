@@ -1,4 +1,4 @@
-use Rattle.std.proofs.Common.{◌≡◌, ◌∙◌, ◌+◌, ◌-◌, ◌≤◌, ℕ, suc, nat_lt, sym, ap, arith, subst}
+use Rattle.std.proofs.Common.{◌≡◌, ◌∙◌, ◌+◌, ◌-◌, ◌≤◌, ℕ, suc, sym, ap, arith, subst}
 use Rattle.std.proofs.lemmas.Bool.{le-ltb}
 use Rattle.replay.specs.Utc.{days_in_year, year_behind}
 use Rattle.replay.proofs.UtcLemmas.{later_year}
