@@ -122,7 +122,7 @@ pub ends : (c : Configuration) (v : Scene) (script : List ℕ) (i : ℕ) (lines 
 ends c v script i lines w here last old mid new past played end =
     let k = cause_of here.latest in
     let all = more_printed v (first_trail v) (trail here.said last) (trail here.said last) played.given (given_at k (the_end ∷ [])) old mid new
-        played.printed end in record {
+    played.printed end in record {
       given = played.given ++ given_at k (the_end ∷ []);
       plays = record {
         world = played.first;

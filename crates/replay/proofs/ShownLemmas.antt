@@ -48,16 +48,18 @@ one_told v said behind last then_last g gaps old mid new p q lines ends = record
 }
 
 -- something that the machine gave out
-pub out_told : (v : Scene) (said behind : ℕ) (last then_last : List LastPacket) (cause : Cause) (out : Out) (old mid new : Option (List ℕ))
-    → Appends old mid (gap_before v last cause (leg_sent v.table out))
+pub out_told : (v : Scene) (said behind : ℕ) (last then_last : List LastPacket) (cause : Cause) (out : Out) (leg : Option ℕ) (packet : LastPacket)
+    (old mid new : Option (List ℕ)) → leg ≡ leg_sent v.table out → packet ≡ packet_at cause → Appends old mid (gap_before v last cause leg)
     → Appends mid new (shown_line v said (record { cause = cause; told = an_out out }))
-    → behind ≡ said_after v said (record { cause = cause; told = an_out out })
-    → then_last ≡ packets_after last (leg_sent v.table out) (packet_at cause)
+    → behind ≡ said_after v said (record { cause = cause; told = an_out out }) → then_last ≡ packets_after last leg packet
     → PrintsGiven v (trail said last) (record { cause = cause; told = an_out out } ∷ []) (trail behind then_last) old new
-out_told v said behind last then_last cause out old mid new p q said_is last_is =
-    one_told v said behind last then_last (record { cause = cause; told = an_out out }) (gap_before v last cause (leg_sent v.table out)) old mid new p q refl
-    (ap (λ (n : ℕ). trail n then_last) said_is
-    ∙ ap (λ (ps : List LastPacket). trail (said_after v said (record { cause = cause; told = an_out out })) ps) last_is)
+out_told v said behind last then_last cause out leg packet old mid new leg_is packet_is p q said_is last_is =
+    let g : Given = record { cause = cause; told = an_out out } in
+    let gap = subst (λ (l : Option ℕ). Appends old mid (gap_before v last cause l)) leg_is p in
+    let packets : then_last ≡ packets_after last (leg_sent v.table out) (packet_at cause) =
+    last_is ∙ (ap (λ (l : Option ℕ). packets_after last l packet) leg_is ∙ ap (packets_after last (leg_sent v.table out)) packet_is) in
+    one_told v said behind last then_last g (gap_before v last cause (leg_sent v.table out)) old mid new gap q refl
+    (ap (λ (n : ℕ). trail n then_last) said_is ∙ ap (trail (said_after v said g)) packets)
 
 -- what has no gap: its line is shown, or it isn't
 told_shown : (v : Scene) (said : ℕ) (last : List LastPacket) (g : Given) (text : List ℕ) (old new : Option (List ℕ)) → is_shown v g ≡ true

@@ -111,12 +111,7 @@ fn script_in<I: Read>(alloc: Global, reader: &mut I) -> Result<Vec<u8>, Failure>
 }
 
 /// Whether a script is refused, since it is the record of a unit with other settings than those of this digest, and these won't do.
-fn is_refused(
-    alloc: Global,
-    others: bool,
-    digest: &[u8],
-    script: &[u8],
-) -> Result<bool, AllocError>
+fn is_refused(alloc: Global, others: bool, digest: &[u8], script: &[u8]) -> Result<bool, AllocError>
     ensures { IfOk result (λ refused. refused ≡ is_refused others digest.now script.now) }
 {
     if others {

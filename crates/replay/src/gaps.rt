@@ -124,9 +124,11 @@ fn print_open<O: Write>(
 fn is_gap(choice: Choice<'_>, latest: Latest<'_>, leg: u16, last: LastPacket) -> bool
     ensures { result ≡ is_gap (scene_of choice.entry) (cause_of latest.entry) leg last }
 {
-    is_long(choice.shown.gaps_ms, latest.input.moment.saturating_sub(last.moment))
-        && (choice.shown.from_ms <= latest.input.moment
-            && choice.shown.is_leg_chosen(choice.links, leg))
+    is_long(
+        choice.shown.gaps_ms,
+        latest.input.moment.saturating_sub(last.moment),
+    ) && (choice.shown.from_ms <= latest.input.moment
+        && choice.shown.is_leg_chosen(choice.links, leg))
 }
 
 /// Whether so many milliseconds are a gap.

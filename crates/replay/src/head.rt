@@ -63,8 +63,10 @@ fn names_others(alloc: Global, digest: &[u8], words: &[&[u8]]) -> Result<bool, A
     match words {
         [mark, name, said] => {
             let own = hex::encode(alloc, digest)?;
-            Ok((is_word(mark, b"#") && is_word(name, b"settings"))
-                && !is_word(said, own.as_bytes()))
+            Ok(
+                (is_word(mark, b"#") && is_word(name, b"settings"))
+                    && !is_word(said, own.as_bytes()),
+            )
         }
         _ => Ok(false),
     }

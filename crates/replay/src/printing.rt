@@ -39,8 +39,9 @@ pub fn print_event<O: Write>(
     is_new: bool,
     writer: &mut O,
 ) -> io::Result<u64>
-    ensures printed { (last : List LastPacket) → IfOk result (λ behind. PrintsGiven (scene_of choice.entry)
-        (trail said last) (given_at (cause_of latest.entry) (event_told is_new)) (trail behind last)
+    ensures printed { IfOk result (λ behind. (last : List LastPacket) → PrintsGiven
+        (scene_of choice.entry) (trail said last)
+        (given_at (cause_of latest.entry) (event_told is_new)) (trail behind last)
         (O.contents writer.old) (O.contents writer.new)) }
 {
     if !is_new {
@@ -129,8 +130,9 @@ pub fn print_set<O: Write>(
     text: &str,
     writer: &mut O,
 ) -> io::Result<u64>
-    ensures printed { (last : List LastPacket) → IfOk result (λ behind. PrintsGiven (scene_of choice.entry)
-        (trail said last) (given_at (cause_of latest.entry) (a_set text.now ∷ [])) (trail behind last)
+    ensures printed { IfOk result (λ behind. (last : List LastPacket) → PrintsGiven
+        (scene_of choice.entry) (trail said last)
+        (given_at (cause_of latest.entry) (a_set text.now ∷ [])) (trail behind last)
         (O.contents writer.old) (O.contents writer.new)) }
 {
     if latest.input.moment < choice.shown.from_ms {
@@ -149,9 +151,9 @@ pub fn print_end<O: Write>(
     packets: &LastPackets,
     writer: &mut O,
 ) -> io::Result<()>
-    ensures printed { (said : ℕ) → OnOk result (PrintsGiven (scene_of choice.entry) (trail said packets.now)
-        (given_at (cause_of latest.entry) (the_end ∷ [])) (trail said packets.now)
-        (O.contents writer.old) (O.contents writer.new)) }
+    ensures printed { OnOk result ((said : ℕ) → PrintsGiven (scene_of choice.entry)
+        (trail said packets.now) (given_at (cause_of latest.entry) (the_end ∷ []))
+        (trail said packets.now) (O.contents writer.old) (O.contents writer.new)) }
 {
     print_open_gaps(alloc, choice, latest, packets, writer)?;
     Ok(())

@@ -25,10 +25,7 @@ use std::io::{Read, Write};
 /// What a command gives: what the machine gave out, and whether the command is an event; or the line of a set.
 #[derive(Drop)]
 pub(crate) enum Gives {
-    Outs {
-        is_event: bool,
-        outs: Vec<Out>,
-    },
+    Outs { is_event: bool, outs: Vec<Out> },
     Set(String),
 }
 
@@ -178,7 +175,7 @@ fn end_all<O: Write>(
     packets: &LastPackets,
     writer: &mut O,
 ) -> Result<(), Failure>
-    ensures printed { (said : ℕ) → OnOk result (PrintsGiven (scene_of choice.entry)
+    ensures printed { OnOk result ((said : ℕ) → PrintsGiven (scene_of choice.entry)
         (trail said packets.now) (given_at (cause_of latest.entry) (the_end ∷ []))
         (trail said packets.now) (O.contents writer.old) (O.contents writer.new)) }
     ensures outside { IfErr result IsOutside }
@@ -253,7 +250,9 @@ fn print_all<O: Write>(
     match gives {
         Gives::Outs { is_event, outs } => {
             let outs = outs.as_slice();
-            print_both(alloc, choice, latest, said, *is_event, outs, packets, writer)
+            print_both(
+                alloc, choice, latest, said, *is_event, outs, packets, writer,
+            )
         }
         Gives::Set(text) => {
             let behind = print_set(alloc, choice, latest, said, text.as_str(), writer)?;

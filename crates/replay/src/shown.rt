@@ -85,8 +85,7 @@ impl Shown {
         ensures { result ≡ shows_event self.now incoming }
     {
         self.events
-            || (is_selection(incoming)
-                && (self.only_leg.is_some() || self.only_endpoint.is_some()))
+            || (is_selection(incoming) && (self.only_leg.is_some() || self.only_endpoint.is_some()))
     }
 
     /// Whether a leg is to be shown.

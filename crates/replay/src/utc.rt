@@ -122,17 +122,11 @@ fn year_behind(left: u64, year: u64, days: u64) -> DaysBehind
     ensures within { result.days ≤ days }
 {
     if left == 0 {
-        return DaysBehind {
-            number: year,
-            days,
-        };
+        return DaysBehind { number: year, days };
     }
     let length = days_in_year(year);
     if days < length {
-        return DaysBehind {
-            number: year,
-            days,
-        };
+        return DaysBehind { number: year, days };
     }
     year_behind(left - 1, year + 1, days - length)
 }

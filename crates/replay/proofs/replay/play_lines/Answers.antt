@@ -51,8 +51,8 @@ returns-clause-done g c =
     on_ok_weaker c.end_all.result
     (λ printed. ends c.args.choice.settings.now (scene_of c.args.choice) c.args.text.now c.loop-line.line-index c.deref-line-items.result.now
     c.loop-line.world c.loop-line.progress c.loop-line.packets (contents c.args.writer.now) (contents c.loop-line.writer)
-    (contents c.end_all.new.writer) c.loop-line-test.false c.loop-line.invariant.played printed)
-    (c.end_all.ensures.printed c.loop-line.progress.said)
+    (contents c.end_all.new.writer) c.loop-line-test.false c.loop-line.invariant.played (printed c.loop-line.progress.said))
+    c.end_all.ensures.printed
 
 pub returns-clause-refused : goal.returns-clause-refused
 returns-clause-refused g c =
