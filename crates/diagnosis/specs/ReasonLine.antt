@@ -84,9 +84,12 @@ abbrev pub lines_of_reason : LegLine → Reason → ℕ → List ℕ
 lines_of_reason l reason moment =
     line_of_reason l reason ++ reported_line l (report_in reason) moment
 
+-- whose packets they are
+abbrev pub endpoint_words : ℕ → List ℕ
+endpoint_words endpoint = codes "endpoint " ++ (decimal endpoint ++ codes " under SSRC ")
+
 -- under which SSRC packets come from an endpoint's address, though that isn't its own
 abbrev pub line_of_stray : ℕ → StraySource → ℕ → List ℕ
 line_of_stray endpoint stray moment =
-    codes "endpoint "
-    ++ (decimal endpoint
-    ++ (codes " under SSRC " ++ (source_words stray.source (moment - stray.moment) ++ codes "\n")))
+    endpoint_words endpoint
+    ++ (source_words stray.source (moment - stray.moment) ++ codes "\n")

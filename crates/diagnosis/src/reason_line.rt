@@ -2,7 +2,7 @@
 
 ghost use Rattle.std.specs.Prelude.{◌≡◌, ◌++◌, IfOk, OnOk};
 ghost use Rattle.std.specs.String.{string_bytes};
-ghost use Rattle.diagnosis.specs.ReasonLine.{detail_words, heard_words, last_words, leg_words, line_of_reason, line_of_stray, lines_of_reason, opening_words, place_words, rate_words, reported_line, source_words};
+ghost use Rattle.diagnosis.specs.ReasonLine.{detail_words, endpoint_words, heard_words, last_words, leg_words, line_of_reason, line_of_stray, lines_of_reason, opening_words, place_words, rate_words, reported_line, source_words};
 
 use crate::reasons::Reason;
 use crate::sightings::StraySource;
@@ -176,8 +176,15 @@ pub fn stray_line(
     ensures { IfOk result (λ text. string_bytes text ≡ line_of_stray endpoint stray moment) }
 {
     let ago_ms = moment.saturating_sub(stray.moment);
-    let mut text = format!(in alloc; "endpoint {endpoint} under SSRC ")?;
+    let mut text = endpoint_words(alloc, endpoint)?;
     push_source(&mut text, stray.source, ago_ms)?;
     text.push_str("\n")?;
     Ok(text)
+}
+
+/// Whose packets they are.
+fn endpoint_words(alloc: Global, endpoint: u16) -> Result<String, AllocError>
+    ensures { IfOk result (λ text. string_bytes text ≡ endpoint_words endpoint) }
+{
+    format!(in alloc; "endpoint {endpoint} under SSRC ")
 }
