@@ -1,13 +1,15 @@
 -- Numbers of two bytes, written and read, and the file that has them.
-use Rattle.std.proofs.Common.{◌≡◌, ◌∙◌, ℕ, suc, ◌*◌, ◌/◌, ◌%◌, ◌^◌, ◌<◌, List, [], ◌∷◌, ◌++◌, length, take, Ok, true, refl, ap, ap₂, arith}
+use Rattle.std.proofs.Common.{◌≡◌, ◌∙◌, ℕ, suc, ◌*◌, ◌/◌, ◌%◌, ◌^◌, ◌<◌, List, [], ◌∷◌, ◌++◌, length, take, drop, Ok, Err, Result, true, refl, ap, ap₂, arith}
 use Rattle.std.specs.Prelude.{◌==◌}
-use Rattle.std.specs.List.{flat_map, All, IsSplitAt}
+use Rattle.std.specs.List.{flat_map, IsSplitAt}
 use Rattle.std.proofs.Math.Seq.{drop-append_seam, take-append_seam}
 use Rattle.std.proofs.lemmas.Bool.{cond-true}
 use Rattle.std.proofs.lemmas.Bool.Decides.{Decides-eqb}
 use Rattle.std.proofs.lemmas.Slice.Eq.{bytes_eq-Decides}
 use Rattle.byteorder.specs.Endian.{big_bytes, big_number}
 use Rattle.byteorder.specs.Numbers.{big_number-reads_back}
+use Rattle.leg_numbers.specs.declared.file.NumbersFault.{NumbersFault}
+use Rattle.leg_numbers.specs.declared.file.NumbersFault.TheVariants.{Unreadable}
 use Rattle.leg_numbers.specs.Numbers.{AreNumbers, begins_with, first_line, numbers_file, numbers_in, read_file, read_rows, read_settings}
 
 all_tail : (x : ℕ) (xs : List ℕ) → AreNumbers (x ∷ xs) → AreNumbers xs
@@ -60,5 +62,6 @@ settings_again digest ns are =
 pub file_again : (digest ns : List ℕ) → AreNumbers ns → read_file digest (length ns) (numbers_file digest ns) ≡ Ok ns
 file_again digest ns are =
     let rest : List ℕ = digest ++ flat_map (big_bytes 2) ns in
-    cond-true (begins_with first_line (first_line ++ rest)) _ _ (begins_itself first_line rest)
+    let read : Result (List ℕ) NumbersFault = read_settings digest (length ns) (drop (length first_line) (first_line ++ rest)) in
+    cond-true (begins_with first_line (first_line ++ rest)) read (Err Unreadable) (begins_itself first_line rest)
     ∙ ap (read_settings digest (length ns)) (drop-append_seam first_line rest) ∙ settings_again digest ns are
