@@ -12,7 +12,7 @@ loop-k-preserved c =
     let k = c.loop-k.k in
     let before = c.loop-k.begun.items in
     let behind = begun_legs numbers (k + 1) (drop (k + 1) legs) in
-    let below : k < length legs = omega (arith, c.len.ensures) in
+    let below : k < length legs = omega arith in
     let leg : LegParts = c.begun_leg.result in
     let is : leg ≡ begun_leg (slice_get numbers k) (get_or legs k leg) =
     c.begun_leg.ensures ∙ ap (λ n. begun_leg n (get_or legs k leg)) c.number_at.ensures in
