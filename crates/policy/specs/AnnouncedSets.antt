@@ -260,4 +260,4 @@ pub record IsHeldInVain (happenings : List SetHappening) (set live : List TmmbrE
   pub named : has_notified happenings ≡ true → names_owner (acknowledged_last happenings) owner ≡ true
   pub lately : has_notified happenings ≡ false
       → (is_among (named_since happenings ++ who_left live (live_last happenings)) owner
-          || is_among (named_before happenings) owner) ≡ true
+      || is_among (named_before happenings) owner) ≡ true

@@ -142,7 +142,7 @@ fn look_again(
 ) -> Result<(), AllocError>
     ensures seen { OnOk result (sets.new
         ≡ with_set sets.old publisher (set_looked (entries_of (announced_of desk.now.bounds))
-            (entries_of (live_after desk.now.request_ms desk.now.base desk.now.history)))) }
+        (entries_of (live_after desk.now.request_ms desk.now.base desk.now.history)))) }
     ensures says { OnOk result (SaysWhatIsDue sets.old links.now head.now publisher
         (announced_of desk.now.bounds) (live_after desk.now.request_ms desk.now.base desk.now.history)
         outs.old.items outs.new.items) }
@@ -150,7 +150,13 @@ fn look_again(
     let announced = desk.announced();
     let set = entries_of(alloc, announced.as_slice())?;
     let live = entries_of(alloc, desk.live())?;
-    let said = sets.look(alloc, publisher, set.as_slice(), live.as_slice(), links.endpoints())?;
+    let said = sets.look(
+        alloc,
+        publisher,
+        set.as_slice(),
+        live.as_slice(),
+        links.endpoints(),
+    )?;
     say_again(alloc, links, head, publisher, desk, &said, outs)?;
     Ok(())
 }
