@@ -13,7 +13,7 @@ use Rattle.cli.specs.declared.status.Status.{Status}
 use Rattle.cli.specs.declared.status.Status.TheVariants as status
 use Rattle.replay.specs.ByFile.{EndsReplay, shown_by}
 use Rattle.serving.proofs.ServeLemmas.{says_alone}
-use Rattle.serving.specs.Serving.{EndsServe, SaysWhyServing, turns_by}
+use Rattle.serving.specs.Serving.{EndsServe, FailsToStart, SaysWhyServing, turns_by}
 use Rattle.settings.specs.Settings.{Configuration}
 
 -- the words ask for one thing
@@ -49,12 +49,16 @@ ends_unnumbered numbers ticks old new errors_old errors_new s ends =
     record { said = errors_old; of_numbers = record { unasked = λ _. refl; notice = inl refl }; ends = ends }
 
 -- this was said of the file of numbers, and then a unit was served
-pub ends_noticed : (path : List ℕ) (numbers : Option (List ℕ)) (fault : NumbersFault) (ticks : Option ℕ) (old new errors_old said errors_new : Option (List ℕ)) (s : Status)
-    → numbers ≡ Some path → SaysUnused fault errors_old said → EndsUnit ticks old new said errors_new s
-    → EndsNumbered numbers ticks old new errors_old errors_new s
-ends_noticed path numbers fault ticks old new errors_old said errors_new s asked noticed ends =
-    let is_asked : numbers ≡ None → said ≡ errors_old = λ none. absurd cc in
-    record { said = said; of_numbers = record { unasked = is_asked; notice = inr (fault, noticed) }; ends = ends }
+pub ends_noticed : (path : List ℕ) (fault : NumbersFault) (ticks : Option ℕ) (old new errors_old said errors_new : Option (List ℕ)) (s : Status)
+    → SaysUnused fault errors_old said → EndsUnit ticks old new said errors_new s → EndsNumbered (Some path) ticks old new errors_old errors_new s
+ends_noticed path fault ticks old new errors_old said errors_new s noticed ends =
+    record { said = said; of_numbers = record { unasked = λ none. absurd cc; notice = inr (fault, noticed) }; ends = ends }
+
+-- it couldn't be said, and none is served
+pub ends_unstarted : (numbers : Option (List ℕ)) (ticks : Option ℕ) (printed errors_old errors_new : Option (List ℕ)) (s : Status)
+    → FailsToStart errors_old errors_new s → EndsNumbered numbers ticks printed printed errors_old errors_new s
+ends_unstarted numbers ticks printed errors_old errors_new s fails =
+    ends_unnumbered numbers ticks printed printed errors_old errors_new s (unit_undone ticks printed errors_old errors_new s fails.failed fails.said)
 
 -- the words couldn't be read, whatever they ask for
 pub unread : (asked : Request) (input printed errors_old errors_new : Option (List ℕ)) (s : Status) → s ≢ status.Done → s ≢ status.Refused → s ≢ status.Settings

@@ -1,6 +1,6 @@
 //! The commands of the program, over a reader and writers.
 
-ghost use Rattle.std.specs.Prelude.{◌≡◌, ◌≢◌, map, codes, option_map};
+ghost use Rattle.std.specs.Prelude.{◌≡◌, ◌≢◌, ℕ, List, Some, map, codes, option_map};
 ghost use Rattle.std.specs.Io.KnownBytes.{Appends, Keeps};
 ghost use Rattle.commands.specs.Commands.{EndsCommand, EndsNumbered, EndsUnit};
 ghost use Rattle.cli.specs.Statuses.{SaysWhy};
@@ -18,8 +18,8 @@ use cli::{
 use replay::{Shown, run_replay};
 use request_text::Meter;
 use serving::{
-    ControlFault, ErrorOutput, NumberKeeper, RECORD_LIMIT, RecordFault, RunStatus, Term,
-    close_control, close_record, open_control, open_record, serve_file,
+    ControlFault, ErrorOutput, NumberKeeper, NumbersFault, RECORD_LIMIT, RecordFault, RunStatus,
+    Term, close_control, close_record, open_control, open_record, serve_file,
 };
 use std::convert::AsStr;
 use std::fs::File;
@@ -174,7 +174,8 @@ fn run_serve<
     }
 }
 
-/// Serves the endpoints. If numbers are noted at a path, legs begin beyond those, and theirs are noted there. A file that isn't used is said.
+/// Serves the endpoints. If numbers are noted at a path, legs begin beyond those, and theirs are noted there.
+#[tactic(auto, using(crate::proofs::CommandLemmas::ends_unnumbered))]
 fn serve_numbered<
     R: AllocGlobal + ErrorOutput + Files<File = File> + Net + Threads + Wait + Sync + time::Clock,
     O: Write,
@@ -186,16 +187,62 @@ fn serve_numbered<
     ensures understood { (result ≢ Status.CommandLine) × (result ≢ Status.Refused)
         × (result ≢ Status.Settings) }
 {
+    match paths.numbers {
+        Some(path) => serve_beyond(rt, file, path, term, paths, writer, errors),
+        None => serve_steered(rt, &file, None, term, paths, writer, errors),
+    }
+}
+
+/// Serves the endpoints. Legs begin beyond the numbers that are noted at this path, and theirs are noted there. A file that isn't used is said.
+#[tactic(auto, using(crate::proofs::CommandLemmas::ends_unnumbered))]
+fn serve_beyond<
+    R: AllocGlobal + ErrorOutput + Files<File = File> + Net + Threads + Wait + Sync + time::Clock,
+    O: Write,
+    E: Write,
+>(
+    rt: &R,
+    file: ServedFile,
+    path: &str,
+    term: Term,
+    paths: Paths<'_>,
+    writer: &mut O,
+    errors: &mut E,
+) -> Status
+    ensures ends { EndsNumbered (Some path.now) term.ticks (O.contents writer.old)
+        (O.contents writer.new) (E.contents errors.old) (E.contents errors.new) result }
+    ensures understood { (result ≢ Status.CommandLine) × (result ≢ Status.Refused)
+        × (result ≢ Status.Settings) }
+{
     let mut file = file;
-    let Some(path) = paths.numbers else {
-        return serve_steered(rt, &file, None, term, paths, writer, errors);
-    };
     match begin_numbers(rt, path, &mut file) {
         Ok(keeper) => serve_steered(rt, &file, Some(keeper), term, paths, writer, errors),
-        Err(fault) => match say_unused(errors, fault) {
-            Ok(()) => serve_steered(rt, &file, None, term, paths, writer, errors),
-            Err(status) => status,
-        },
+        Err(fault) => serve_unused(rt, &file, fault, term, paths, writer, errors),
+    }
+}
+
+/// Says why the file of numbers isn't used, and serves the endpoints without.
+#[tactic(auto, using(crate::proofs::CommandLemmas::ends_noticed, crate::proofs::CommandLemmas::ends_unstarted))]
+fn serve_unused<
+    R: AllocGlobal + ErrorOutput + Files<File = File> + Net + Threads + Wait + Sync + time::Clock,
+    O: Write,
+    E: Write,
+>(
+    rt: &R,
+    file: &ServedFile,
+    fault: NumbersFault,
+    term: Term,
+    paths: Paths<'_>,
+    writer: &mut O,
+    errors: &mut E,
+) -> Status
+    ensures ends { (path : List ℕ) → EndsNumbered (Some path) term.ticks (O.contents writer.old)
+        (O.contents writer.new) (E.contents errors.old) (E.contents errors.new) result }
+    ensures understood { (result ≢ Status.CommandLine) × (result ≢ Status.Refused)
+        × (result ≢ Status.Settings) }
+{
+    match say_unused(errors, fault) {
+        Ok(()) => serve_steered(rt, file, None, term, paths, writer, errors),
+        Err(status) => status,
     }
 }
 
