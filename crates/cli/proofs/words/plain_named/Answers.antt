@@ -16,7 +16,7 @@ returns-in_err-get_str-in-replay c =
 
 pub returns-in_ok-get_str-in-replay : goal.returns-in_ok-get_str-in-replay
 returns-in_ok-get_str-in-replay c = rw c.in-replay.is (asked_replay (found_of c.args.matches.now) (Some c.in_ok-get_str-in-replay.field-0.now) _ _ _ _ _ _ _ c.in_ok-get_str-in-replay.ensures c.number_in-in-replay.ensures c.number_in-in-replay-2.ensures c.moment_in.ensures c.is_set.ensures
-    c.moment_in-2.ensures c.is_set-2.ensures c.is_set-3.ensures)
+    c.moment_in-in-replay.ensures c.is_set-in-replay.ensures c.is_set-in-replay-2.ensures)
 
 pub returns-in_err-get_str-in-page : goal.returns-in_err-get_str-in-page
 returns-in_err-get_str-in-page c =
