@@ -1,13 +1,13 @@
 -- What is shown of lists one after the other.
-use Rattle.std.proofs.Common.{◌≡◌, ◌∙◌, ℕ, ◌+◌, ◌<◌, ◌≤◌, suc, cond, drop, true, false, Bool, List, [], ◌∷◌, ◌++◌, map, length, take, get_or, Option, refl, sym, ap, subst, append_assoc}
+use Rattle.std.proofs.Common.{◌≡◌, ◌∙◌, ℕ, ◌+◌, ◌<◌, ◌≤◌, ◌&&◌, suc, add-one, nat_le, slice_index_or, cond, drop, true, false, Bool, List, [], ◌∷◌, ◌++◌, map, length, take, get_or, Option, refl, sym, ap, subst, append_assoc}
 use Rattle.std.specs.Io.KnownBytes.{Appends}
 use Rattle.std.proofs.KnownBytes.{Appends-nil, Appends-trans}
 use Rattle.std.proofs.lemmas.Bool.{cond-false, cond-true, le-leb, lt-leb}
 use Rattle.std.proofs.lemmas.List.{append-nil, map-append, take_more}
 use Rattle.events.specs.declared.output.Out.{Out}
-use Rattle.replay.specs.LastPackets.{packets_after}
+use Rattle.replay.specs.LastPackets.{no_packet, packets_after}
 use Rattle.replay.specs.Printing.{PrintsGiven}
-use Rattle.replay.specs.Shown.{Cause, Given, Scene, Told, Trail, a_set, an_event, an_out, event_told, gap_before, given_at, heading, is_named, is_shown, leg_sent, lines_at, lines_behind, names_source, new_line, open_gaps, packet_at, said_after, shown_line, the_end, trail, trail_after, trail_behind}
+use Rattle.replay.specs.Shown.{Cause, Given, Scene, Told, Trail, a_set, an_event, an_out, event_told, gap_before, given_at, heading, is_named, is_shown, leg_sent, lines_at, lines_behind, names_source, new_line, open_gap, open_gaps, packet_at, said_after, shown_line, the_end, told_text, trail, trail_after, trail_behind}
 use Rattle.rtcp_compound.specs.Mux.{is_rtcp}
 use Rattle.datagram.specs.Naming.{heard_size, source_named}
 use Rattle.replay.specs.declared.last_packets.LastPacket.{LastPacket}
@@ -122,13 +122,30 @@ set_hidden v said last cause text old early =
     let hidden : is_shown v (record { cause = cause; told = a_set text }) ≡ false = rw (lt-leb _ _ early) refl in
     told_hidden v said last (record { cause = cause; told = a_set text }) (heading v said cause ++ text) old hidden refl refl refl
 
+never : (b : Bool) → (b && false) ≡ false
+never true = refl
+never false = refl
+
 -- the gaps that last when the script is over
 pub end_printed : (v : Scene) (said : ℕ) (last : List LastPacket) (cause : Cause) (old new : Option (List ℕ))
     → Appends old new (open_gaps v last cause (length v.table.legs))
     → PrintsGiven v (trail said last) (given_at cause (the_end ∷ [])) (trail said last) old new
 end_printed v said last cause old new p =
     let g : Given = record { cause = cause; told = the_end } in
-    one_told v said said last last g (open_gaps v last cause (length v.table.legs)) old new new p (Appends-nil new) refl refl
+    let hidden : is_shown v g ≡ false = never (nat_le v.shown.from_ms cause.moment) in
+    let none : shown_line v said g ≡ [] = cond-false (is_shown v g) (told_text v said cause the_end) [] hidden in
+    let number : said_after v said g ≡ said = cond-false (is_shown v g) cause.number said hidden in
+    one_told v said said last last g (open_gaps v last cause (length v.table.legs)) old new new p (subst (Appends new new) (sym none) (Appends-nil new)) refl
+    (ap (λ (n : ℕ). trail n last) (sym number))
+
+-- the gap of one leg more
+pub more_gaps : (v : Scene) (last : List LastPacket) (cause : Cause) (leg : ℕ) (packet : LastPacket) (old mid new : Option (List ℕ))
+    → packet ≡ slice_index_or last leg no_packet → Appends old mid (open_gaps v last cause leg) → Appends mid new (open_gap v cause leg packet)
+    → Appends old new (open_gaps v last cause (leg + 1))
+more_gaps v last cause leg packet old mid new is p q =
+    let own = subst (λ (x : LastPacket). Appends mid new (open_gap v cause leg x)) is q in
+    subst (λ (n : ℕ). Appends old new (open_gaps v last cause n)) (sym (add-one leg))
+    (Appends-trans old mid new (open_gaps v last cause leg) (open_gap v cause leg (slice_index_or last leg no_packet)) p own)
 
 -- the event first, then what the machine gave out
 pub both_printed : (v : Scene) (a b e : Trail) (cause : Cause) (first : List Told) (outs : List Out) (old mid new : Option (List ℕ))

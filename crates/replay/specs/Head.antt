@@ -11,20 +11,27 @@ names_program (mark ∷ (name ∷ (version ∷ []))) =
     bytes_eq mark (codes "#") && bytes_eq name (codes "sfu")
 names_program words = false
 
+abbrev pub marks_settings : List ℕ → List ℕ → Bool
+marks_settings mark name = bytes_eq mark (codes "#") && bytes_eq name (codes "settings")
+
 -- `# settings DIGEST`, with other hexadecimal digits than those of this digest
 abbrev pub names_others : List ℕ → List (List ℕ) → Bool
 names_others digest (mark ∷ (name ∷ (said ∷ []))) =
-    (bytes_eq mark (codes "#") && bytes_eq name (codes "settings"))
-    && not (bytes_eq said (encode_lower digest))
+    marks_settings mark name && not (bytes_eq said (encode_lower digest))
 names_others digest words = false
+
+abbrev pub marks_clock : List ℕ → List ℕ → List ℕ → List ℕ → Bool
+marks_clock mark word moment unit =
+    (bytes_eq mark (codes "#") && bytes_eq word (codes "moment"))
+    && (bytes_eq moment (codes "0") && bytes_eq unit (codes "unix_ms"))
+
+abbrev pub number_if : Bool → List ℕ → Option ℕ
+number_if said word = if said then number_under (2 ^ 64) word else None
 
 -- `# moment 0 unix_ms MS`
 abbrev pub clock_said : List (List ℕ) → Option ℕ
 clock_said (mark ∷ (word ∷ (moment ∷ (unit ∷ (ms ∷ []))))) =
-    if (bytes_eq mark (codes "#") && bytes_eq word (codes "moment"))
-    && (bytes_eq moment (codes "0") && bytes_eq unit (codes "unix_ms"))
-    then number_under (2 ^ 64) ms
-    else None
+    number_if (marks_clock mark word moment unit) ms
 clock_said words = None
 
 abbrev pub is_head_of_others : List ℕ → List (List ℕ) → Bool

@@ -1,8 +1,9 @@
 //! What the head of a record says: the comment that its first lines are.
 
-ghost use Rattle.std.specs.Prelude.{◌≡◌, IfOk, map};
+ghost use Rattle.std.specs.Prelude.{◌≡◌, IfOk, map, not};
+ghost use Rattle.std.specs.Str.{bytes_eq};
 ghost use Rattle.request_text.specs.Words.{words_in};
-ghost use Rattle.replay.specs.Head.{clock_in, clock_said, head_clock, is_head_of_others, is_of_others, names_others, names_program};
+ghost use Rattle.replay.specs.Head.{clock_in, clock_said, head_clock, is_head_of_others, is_of_others, marks_clock, marks_settings, names_others, names_program, number_if};
 
 use request_text::{is_word, lines, number_u64, words_of};
 use std::alloc::{AllocError, Global};
@@ -63,13 +64,23 @@ fn names_others(alloc: Global, digest: &[u8], words: &[&[u8]]) -> Result<bool, A
     match words {
         [mark, name, said] => {
             let own = hex::encode(alloc, digest)?;
-            Ok(
-                (is_word(mark, b"#") && is_word(name, b"settings"))
-                    && !is_word(said, own.as_bytes()),
-            )
+            Ok(marks_settings(mark, name) && is_other(said, own.as_bytes()))
         }
         _ => Ok(false),
     }
+}
+
+/// `# settings`.
+fn marks_settings(mark: &[u8], name: &[u8]) -> bool
+    ensures { result ≡ marks_settings mark.now name.now }
+{
+    is_word(mark, b"#") && is_word(name, b"settings")
+}
+
+fn is_other(said: &[u8], own: &[u8]) -> bool
+    ensures { result ≡ not (bytes_eq said.now own.now) }
+{
+    !is_word(said, own)
 }
 
 /// What the wall clock said at moment 0, in milliseconds since the beginning of 1970, if that is asked for and the script's head says it.
@@ -114,15 +125,22 @@ fn clock_said(words: &[&[u8]]) -> Option<u64>
     ensures { result ≡ clock_said (map (λ x. x.now) words.now) }
 {
     match words {
-        [mark, word, moment, unit, ms] => {
-            if (is_word(mark, b"#") && is_word(word, b"moment"))
-                && (is_word(moment, b"0") && is_word(unit, b"unix_ms"))
-            {
-                number_u64(ms)
-            } else {
-                None
-            }
-        }
+        [mark, word, moment, unit, ms] => number_if(marks_clock(mark, word, moment, unit), ms),
         _ => None,
     }
+}
+
+/// `# moment 0 unix_ms`.
+fn marks_clock(mark: &[u8], word: &[u8], moment: &[u8], unit: &[u8]) -> bool
+    ensures { result ≡ marks_clock mark.now word.now moment.now unit.now }
+{
+    (is_word(mark, b"#") && is_word(word, b"moment"))
+        && (is_word(moment, b"0") && is_word(unit, b"unix_ms"))
+}
+
+/// The number that a word spells, if it is to.
+fn number_if(is_said: bool, word: &[u8]) -> Option<u64>
+    ensures { result ≡ number_if is_said word.now }
+{
+    if is_said { number_u64(word) } else { None }
 }

@@ -77,7 +77,6 @@ pub fn print_outs<O: Write>(
 }
 
 /// The same of one of these, after the line of the gap that ends with it.
-#[tactic(auto, using(crate::proofs::ShownLemmas::out_told))]
 fn print_one<O: Write>(
     alloc: Global,
     choice: Choice<'_>,
