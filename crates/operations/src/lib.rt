@@ -11,6 +11,7 @@ mod diagnosing;
 mod lines;
 mod number_keeper;
 mod record_file;
+mod replaced_file;
 mod run_status;
 mod status_lines;
 mod steered;
@@ -25,6 +26,7 @@ pub use record_file::{close_record, open_record};
 pub use recording::{
     ControlFault, Origin, RECORD_LIMIT, RecordFault, Recorder, Taken, WriterFault,
 };
+pub use replaced_file::ReplacedFile;
 pub use run_status::RunStatus;
 pub use status_lines::{ControlLines, StatusLines};
 pub use steered::SteeredWatch;

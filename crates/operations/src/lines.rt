@@ -1,11 +1,11 @@
 //! Lines for people, which a thread of its own writes: nobody waits for who reads them.
 
+use crate::replaced_file::ReplacedFile;
 use crate::wall_time::time_text;
 use recording::{Outlet, WriterFault, start_writer};
 use std::alloc::{AllocError, Global};
 use std::io::{self, ErrorKind, Stderr, Write};
 use std::net::Net;
-use std::rt::Files;
 use std::thread::{self, Threads};
 use std::time::{self, Duration, SystemTime};
 
@@ -21,26 +21,30 @@ const LOOK_MS: u64 = 2;
 pub trait ErrorOutput {
     type Output: Write + Send + Drop + 'static;
 
-    type Disk: Files + Send + Drop + 'static;
+    type Replaced: Write + Send + Drop + 'static;
 
     /// The error output.
     fn error_output(&self) -> Self::Output;
 
-    /// The files.
-    fn disk(&self) -> Self::Disk;
+    /// A file at this path. Each write stands first beside it, at the other path, and then takes its place as a whole.
+    fn replaced(&self, path: String, beside: String) -> Self::Replaced;
 }
 
 impl ErrorOutput for HostRuntime {
     type Output = Stderr;
 
-    type Disk = HostRuntime;
+    type Replaced = ReplacedFile;
 
     fn error_output(&self) -> Stderr {
         self.stderr()
     }
 
-    fn disk(&self) -> HostRuntime {
-        *self
+    fn replaced(&self, path: String, beside: String) -> ReplacedFile {
+        ReplacedFile {
+            runtime: *self,
+            path,
+            beside,
+        }
     }
 }
 

@@ -6,11 +6,9 @@ use crate::lines::ErrorOutput;
 use leg_numbers::{NumbersFault, first_after, numbers_file};
 use stats::Traffic;
 use std::alloc::{AllocError, Global};
-use std::fs;
 use std::io::{self, ErrorKind, Read, Write};
 use std::net::{Net, Shutdown};
 use std::os::unix::net::UnixStream;
-use std::rt::Files;
 use std::sync::Arc;
 use std::sync::atomic::{AtomicU16, Ordering};
 use std::thread::{self, JoinHandle, Threads};
@@ -34,12 +32,10 @@ pub struct NumberKeeper {
 
 /// What the thread writes down, and where.
 #[derive(Drop)]
-struct NumberWriter<D: Drop> {
+struct NumberWriter<W: Drop> {
     alloc: Global,
-    disk: D,
-    path: String,
-    /// Where a file is written before it takes the place of the one before.
-    beside: String,
+    /// Each write replaces the file as a whole.
+    file: W,
     /// The SHA-256 of the settings.
     digest: Vec<u8>,
     first: Arc<FirstNumbers, Global>,
@@ -60,19 +56,27 @@ pub fn open_numbers<R: AllocGlobal + ErrorOutput + Net + Threads>(
         return Err(NumbersFault::Unwritable);
     };
     let (cells, shared) = cells_of(rt.alloc(), first.as_slice())?;
-    let writer = writer_of(rt, path, digest, shared, heard)?;
+    let mut writer = writer_of(rt, path, digest, shared, heard)?;
     if !writer.write() {
         return Err(NumbersFault::Unwritable);
     }
-    match thread::spawn(rt, move || write_numbers(writer)) {
-        Ok(thread) => Ok(NumberKeeper {
+    match start_writing(rt, writer) {
+        Some(thread) => Ok(NumberKeeper {
             next: first,
             first: cells,
             bell,
             thread,
         }),
-        Err(_) => Err(NumbersFault::Unwritable),
+        None => Err(NumbersFault::Unwritable),
     }
+}
+
+/// Starts the thread that writes down each note, if the system has one for it.
+fn start_writing<R: Threads, W: Write + Send + Drop + 'static>(
+    rt: &R,
+    writer: NumberWriter<W>,
+) -> Option<JoinHandle<()>> {
+    thread::spawn(rt, move || write_numbers(writer)).ok()
 }
 
 /// Who writes these numbers at the path, of a unit whose settings have this SHA-256, when this bell rings.
@@ -82,12 +86,13 @@ fn writer_of<R: AllocGlobal + ErrorOutput>(
     digest: &[u8],
     first: Arc<FirstNumbers, Global>,
     bell: UnixStream,
-) -> Result<NumberWriter<R::Disk>, AllocError> {
+) -> Result<NumberWriter<R::Replaced>, AllocError> {
     Ok(NumberWriter {
         alloc: rt.alloc(),
-        disk: rt.disk(),
-        path: String::from_str(rt.alloc(), path)?,
-        beside: beside_of(rt.alloc(), path)?,
+        file: rt.replaced(
+            String::from_str(rt.alloc(), path)?,
+            beside_of(rt.alloc(), path)?,
+        ),
         digest: Vec::from_slice(rt.alloc(), digest)?,
         first,
         bell,
@@ -157,7 +162,7 @@ fn next_of(traffic: &Traffic, leg: usize) -> Option<u16> {
 }
 
 /// Writes down each note when the bell rings, until nobody notes any more.
-fn write_numbers<D: Files + Drop>(writer: NumberWriter<D>) {
+fn write_numbers<W: Write + Drop>(writer: NumberWriter<W>) {
     let mut writer = writer;
     for _ring in 0..u64::MAX {
         let is_over = writer.is_over();
@@ -168,7 +173,7 @@ fn write_numbers<D: Files + Drop>(writer: NumberWriter<D>) {
     }
 }
 
-impl<D: Files + Drop> NumberWriter<D> {
+impl<W: Write + Drop> NumberWriter<W> {
     /// Waits until the bell rings; whether it rings no more.
     fn is_over(&mut self) -> bool {
         let mut rings = [0; 64];
@@ -180,16 +185,15 @@ impl<D: Files + Drop> NumberWriter<D> {
     }
 
     /// Puts a file with the numbers as they are now in the place of the one before, as a whole; whether that was done.
-    fn write(&self) -> bool {
-        let Ok(file) = self.file() else {
+    fn write(&mut self) -> bool {
+        let Ok(noted) = self.noted() else {
             return false;
         };
-        let (path, beside) = (self.path.as_str(), self.beside.as_str());
-        fs::write(&self.disk, beside, file).is_ok() && fs::rename(&self.disk, beside, path).is_ok()
+        self.file.write(noted.as_slice()).is_ok()
     }
 
-    /// The file with the numbers as they are now.
-    fn file(&self) -> Result<Vec<u8>, AllocError> {
+    /// What the file has with the numbers as they are now.
+    fn noted(&self) -> Result<Vec<u8>, AllocError> {
         let cells = self.first.cells.as_slice();
         let mut numbers = Vec::with_capacity(self.alloc, cells.len())?;
         for cell in cells {
