@@ -8,7 +8,6 @@ use Rattle.rtcp_compound.specs.Grammar.{ReadsRtcp, RtcpPacket, packet_bytes}
 use Rattle.rtcp_compound.specs.Report.{block_in, blocks_in}
 use Rattle.rtcp_compound.specs.declared.packet.TheConstants.{SR, RR, SDES, BYE, RTPFB, PSFB}
 use Rattle.rtcp_compound.specs.declared.sizes.TheConstants.{SOURCE_BYTES, SENDER_BYTES, BLOCK_BYTES}
-use Rattle.rtcp_feedback.specs.Reading.{entries_in}
 use Rattle.datagram.specs.Blocks.{blocks_said}
 use Rattle.datagram.specs.Notes.{AreNoted}
 use Rattle.datagram.specs.Notice.{entries_of, last_notice, later_notice, notice_body, notice_in, or_former}
@@ -58,7 +57,7 @@ blocks_of_all (p ∷ ps) =
 
 -- ---- entries of a TMMBN, of 8 bytes each
 
-entries_within : (bytes : List ℕ) → 8 * length (entries_in bytes) ≤ length bytes
+entries_within : (bytes : List ℕ) → 8 * length (entries_of (Some bytes)) ≤ length bytes
 entries_within [] = omega arith
 entries_within (a ∷ []) = omega arith
 entries_within (a ∷ (b ∷ [])) = omega arith
@@ -70,7 +69,7 @@ entries_within (a ∷ (b ∷ (c ∷ (d ∷ (e ∷ (f ∷ (g ∷ []))))))) = omeg
 entries_within (a ∷ (b ∷ (c ∷ (d ∷ (e ∷ (f ∷ (g ∷ (h ∷ rest)))))))) = omega (arith, entries_within rest)
 
 -- how many bytes a notice has
-size_of : Option (List ℕ) → ℕ
+abbrev size_of : Option (List ℕ) → ℕ
 size_of None = 0
 size_of (Some bytes) = length bytes
 

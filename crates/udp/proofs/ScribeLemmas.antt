@@ -29,23 +29,23 @@ use Rattle.udp.specs.declared.kept.Kept.{Kept}
 
 -- ---- `==` of what is asked for
 
-kind_of : Ask → ℕ
+abbrev kind_of : Ask → ℕ
 kind_of (Rate source word) = 0
 kind_of (Resend source nack) = 1
 kind_of (Picture source) = 2
 
-source_of : Ask → ℕ
+abbrev source_of : Ask → ℕ
 source_of (Rate source word) = source.0
 source_of (Resend source nack) = source.0
 source_of (Picture source) = source.0
 
 -- a word, or the first lost number; and the bits of the others
-first_of : Ask → ℕ
+abbrev first_of : Ask → ℕ
 first_of (Rate source word) = word
 first_of (Resend source nack) = nack.pid
 first_of (Picture source) = 0
 
-bits_of : Ask → ℕ
+abbrev bits_of : Ask → ℕ
 bits_of (Rate source word) = 0
 bits_of (Resend source nack) = nack.blp
 bits_of (Picture source) = 0

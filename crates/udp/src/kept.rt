@@ -165,6 +165,7 @@ impl Kept {
         ensures sent { self.new.sent ≡ sent_by links.now endpoint moment }
         ensures bytes { bytes_of self.new ≡ bytes_of self.old }
         ensures buffer { self.new.buffer ≡ self.old.buffer }
+        ensures notes { self.new.notes ≡ self.old.notes }
     {
         self.sent = Sent {
             moment,
