@@ -1,5 +1,5 @@
 -- What a replay prints by the settings that a file holds.
-use Rattle.std.proofs.Common.{◌≡◌, ◌≢◌, ◌∙◌, Bool, true, false, sym, subst, inl, inr}
+use Rattle.std.proofs.Common.{◌≡◌, ◌≢◌, ◌∙◌, Bool, true, false, ap, sym, subst, inl, inr}
 use Rattle.std.specs.Prelude.{ℕ, List, Option, None, Some, Ok, IfSome, codes}
 use Rattle.std.specs.Io.KnownBytes.{Appends, Keeps}
 use Rattle.cli.specs.Statuses.{ShowsFailure, status_of}
@@ -12,6 +12,18 @@ use Rattle.replay.specs.declared.shown.Shown.{Shown}
 use Rattle.replay.specs.ByFile.{EndsReplay, HoldsSettings, NamesOthers, PrintsByFile, RefusesByFile, is_refused}
 use Rattle.replay.specs.Replay.{EndsScript, IsOutside, PrintsReplay, RefusesReplay}
 use Rattle.sha2.specs.Sha256.{sha256}
+
+-- the bytes of a script, seen as a slice
+pub whole_at : (input : Option (List ℕ)) (script items : List ℕ) → script ≡ items → IfSome input (λ bytes. items ≡ bytes)
+    → IfSome input (λ bytes. script ≡ bytes)
+whole_at None script items is whole = tt
+whole_at (Some bytes) script items is whole = is ∙ whole
+
+-- a test of it, by the digest as a slice
+pub refused_at : (others : Bool) (seen digest script : List ℕ) (r b : Bool) → seen ≡ digest → r ≡ is_refused others seen script → r ≡ b
+    → is_refused others digest script ≡ b
+refused_at others seen digest script r b at_digest is value =
+    ap (λ (d : List ℕ). is_refused others d script) (sym at_digest) ∙ (sym is ∙ value)
 
 -- the script fits the settings
 fits_by : (others : Bool) (s : ReplaySettings) (text script : List ℕ) → HoldsSettings text s → is_refused others s.digest script ≡ false

@@ -90,7 +90,7 @@ fn replay_by<I: Read, O: Write, E: Write>(
     };
     let script = script.as_slice();
     match is_refused(alloc, others, settings.digest.as_slice(), script) {
-        Ok(true) => say(errors, b"refused settings\n", Status::Refused),
+        Ok(true) => say_others(errors),
         Ok(false) => {
             let settings = &settings.file.settings;
             replay_text(alloc, settings, shown, meter, script, writer, errors)
@@ -132,6 +132,17 @@ fn say_unknown<E: Write>(errors: &mut E, unknown: Unknown) -> Status
         Unknown::Endpoint => say(errors, b"refused endpoint\n", Status::Refused),
         Unknown::Leg => say(errors, b"refused leg\n", Status::Refused),
     }
+}
+
+/// Says on the error output that the settings aren't those of the script's unit.
+fn say_others<E: Write>(errors: &mut E) -> Status
+    ensures refused { result ≡ Status.Refused
+        → Appends (E.contents errors.old) (E.contents errors.new) (codes "refused settings\n") }
+    ensures understood { (result ≢ Status.Done) × (result ≢ Status.CommandLine)
+        × (result ≢ Status.Settings) }
+    ensures said { SaysWhy (E.contents errors.old) (E.contents errors.new) result }
+{
+    say(errors, b"refused settings\n", Status::Refused)
 }
 
 /// The settings that a file holds.

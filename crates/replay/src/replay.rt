@@ -143,8 +143,8 @@ fn play_lines<O: Write>(
 {
     let lines = lines(alloc, text)?;
     let count = line_count(lines.as_slice());
-    let mut world = World::new(alloc, choice.settings)?;
     let mut packets = LastPackets::new(alloc, choice.links.legs().len())?;
+    let mut world = World::new(alloc, choice.settings)?;
     let mut progress = Progress {
         latest: Latest::none(),
         said: 0,
@@ -262,7 +262,6 @@ fn print_all<O: Write>(
 }
 
 /// The same of the latest event, if this is new, and of what the machine gave out.
-#[tactic(auto, using(crate::proofs::ShownLemmas::both_printed))]
 fn print_both<O: Write>(
     alloc: Global,
     choice: Choice<'_>,

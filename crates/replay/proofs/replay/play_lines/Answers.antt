@@ -1,4 +1,4 @@
-use Rattle.std.proofs.Common.{◌∙◌, ap, refl, Bor, List, ℕ, length, map, replicate, arith}
+use Rattle.std.proofs.Common.{◌∙◌, [], ap, refl, Bor, List, ℕ, length, map, replicate, arith}
 use Rattle.std.proofs.lemmas.Result.{IfErr-weaker, err_from_is_err_and, on_ok_weaker}
 use Rattle.settings.specs.declared.settings.LegSettings.{LegSettings}
 use Rattle.replay.specs.LastPackets.{no_packet}
