@@ -76,9 +76,3 @@ unread_by_file shown others f input old errors_old errors_new st outside shows =
   done = λ is. absurd (shows.failed is);
   refused = λ is. absurd (not_refused f outside (shows.refused is).0);
 }
-
--- memory was wanting: nothing was refused
-pub wanting_by_file : (shown : Shown) (others : Bool) (input old errors_old errors_new : Option (List ℕ)) (st : Status) → st ≢ status.Done
-    → st ≢ status.Refused → EndsReplay shown others input old old errors_old errors_new st
-wanting_by_file shown others input old errors_old errors_new st undone unrefused =
-    record { done = λ is. absurd (undone is); refused = λ is. absurd (unrefused is) }

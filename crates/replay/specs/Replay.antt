@@ -20,8 +20,8 @@ use Rattle.cli.specs.declared.status.Status.TheVariants as status
 use Rattle.cli.specs.declared.status.Failure.{Failure}
 use Rattle.cli.specs.declared.status.Failure.TheVariants.{NoMemory, Refused as RefusedLine, Io}
 use Rattle.request_text.specs.declared.fault.LineFault.TheVariants.{Text}
-use Rattle.replay.specs.declared.replay.Gives.{Gives}
-use Rattle.replay.specs.declared.replay.Gives.TheVariants.{Outs, Set}
+use Rattle.replay.specs.declared.giving.Gives.{Gives}
+use Rattle.replay.specs.declared.giving.Gives.TheVariants.{Outs, Set}
 use Rattle.replay.specs.declared.replay.Progress.{Progress}
 use Rattle.replay.specs.declared.script.Command.{Command}
 use Rattle.replay.specs.declared.script.Command.TheVariants.{Do, Settle, Follow, Show}

@@ -1,17 +1,18 @@
 //! `sfu replay`: plays a script through the machine.
 
-ghost use Rattle.std.specs.Prelude.{◌≡◌, ◌∷◌, ◌++◌, ◌<◌, ℕ, [], Some, length, map, string_bytes, IfErr, IfOk, IfSome, OnOk};
+ghost use Rattle.std.specs.Prelude.{◌≡◌, ◌∷◌, ◌<◌, [], Some, length, string_bytes, IfErr, IfOk, IfSome, OnOk};
 ghost use Rattle.core_steps.specs.Run.{HasRun};
 ghost use Rattle.core_steps.specs.Settling.{ingress_left};
-ghost use Rattle.replay.specs.Printing.{PrintsGiven, scene_of};
+ghost use Rattle.replay.specs.Printing.{scene_of};
 ghost use Rattle.replay.specs.Script.{IsAmong};
-ghost use Rattle.replay.specs.Shown.{all_shown, an_out, cause_of, event_told, given_at, the_end, trail};
-ghost use Rattle.replay.specs.Replay.{CommandPlays, EndsScript, FailsLine, FailsLines, FailsReplay, Follows, GivesOut, IngressDrains, IsOutside, IsShown, PrintsLine, PrintsLines, PrintsReplay, Rounds, Settles, WorkerDrains, WorkersDrain, numbers_of, told_in};
+ghost use Rattle.replay.specs.Shown.{all_shown};
+ghost use Rattle.replay.specs.Replay.{CommandPlays, EndsScript, FailsLine, FailsLines, FailsReplay, Follows, GivesOut, IngressDrains, IsShown, PrintsLine, PrintsLines, PrintsReplay, Rounds, Settles, WorkerDrains, WorkersDrain, numbers_of, told_in};
 
+use crate::giving::{Gives, end_all, print_all};
 use crate::head::clock_in;
 use crate::last_packets::LastPackets;
 use crate::latest::{Latest, command_input};
-use crate::printing::{Choice, print_end, print_event, print_outs, print_set};
+use crate::printing::Choice;
 use crate::script::{Command, Numbers, ScriptLine, read_line};
 use crate::shown::Shown;
 use cli::{Failure, Status, report};
@@ -21,13 +22,6 @@ use request_text::{LineFault, Meter, announced_line, line_count, lines};
 use settings::{Links, Settings};
 use std::alloc::{AllocError, Global};
 use std::io::{Read, Write};
-
-/// What a command gives: what the machine gave out, and whether the command is an event; or the line of a set.
-#[derive(Drop)]
-pub(crate) enum Gives {
-    Outs { is_event: bool, outs: Vec<Out> },
-    Set(String),
-}
 
 /// How far a replay is: what came from outside last, and the number of the event from which the last printed line follows.
 #[derive(Clone, Copy)]
@@ -167,23 +161,6 @@ fn play_lines<O: Write>(
     end_all(alloc, choice, progress.latest, &packets, writer)
 }
 
-/// Prints what is shown once the script is over, as `print_end` does.
-fn end_all<O: Write>(
-    alloc: Global,
-    choice: Choice<'_>,
-    latest: Latest<'_>,
-    packets: &LastPackets,
-    writer: &mut O,
-) -> Result<(), Failure>
-    ensures printed { OnOk result ((said : ℕ) → PrintsGiven (scene_of choice.entry)
-        (trail said packets.now) (given_at (cause_of latest.entry) (the_end ∷ []))
-        (trail said packets.now) (O.contents writer.old) (O.contents writer.new)) }
-    ensures outside { IfErr result IsOutside }
-{
-    print_end(alloc, choice, latest, packets, writer)?;
-    Ok(())
-}
-
 /// Plays the line with this number, and answers how far the replay is then.
 fn play_line<'t, O: Write>(
     alloc: Global,
@@ -230,57 +207,6 @@ fn play_line<'t, O: Write>(
             fault: LineFault::Text,
         }),
     }
-}
-
-/// Prints what is shown of what a command gave, as `print_outs` does.
-fn print_all<O: Write>(
-    alloc: Global,
-    choice: Choice<'_>,
-    latest: Latest<'_>,
-    said: u64,
-    gives: &Gives,
-    packets: &mut LastPackets,
-    writer: &mut O,
-) -> Result<u64, Failure>
-    ensures printed { IfOk result (λ behind. PrintsGiven (scene_of choice.entry)
-        (trail said packets.old) (given_at (cause_of latest.entry) (told_in gives.now))
-        (trail behind packets.new) (O.contents writer.old) (O.contents writer.new)) }
-    ensures outside { IfErr result IsOutside }
-{
-    match gives {
-        Gives::Outs { is_event, outs } => {
-            let outs = outs.as_slice();
-            print_both(
-                alloc, choice, latest, said, *is_event, outs, packets, writer,
-            )
-        }
-        Gives::Set(text) => {
-            let behind = print_set(alloc, choice, latest, said, text.as_str(), writer)?;
-            Ok(behind)
-        }
-    }
-}
-
-/// The same of the latest event, if this is new, and of what the machine gave out.
-fn print_both<O: Write>(
-    alloc: Global,
-    choice: Choice<'_>,
-    latest: Latest<'_>,
-    said: u64,
-    is_event: bool,
-    outs: &[Out],
-    packets: &mut LastPackets,
-    writer: &mut O,
-) -> Result<u64, Failure>
-    ensures printed { IfOk result (λ behind. PrintsGiven (scene_of choice.entry)
-        (trail said packets.old)
-        (given_at (cause_of latest.entry) (event_told is_event ++ map an_out outs.now))
-        (trail behind packets.new) (O.contents writer.old) (O.contents writer.new)) }
-    ensures outside { IfErr result IsOutside }
-{
-    let event = print_event(alloc, choice, latest, said, is_event, writer)?;
-    let behind = print_outs(alloc, choice, latest, event, outs, packets, writer)?;
-    Ok(behind)
 }
 
 /// How many endpoints and workers the settings have.

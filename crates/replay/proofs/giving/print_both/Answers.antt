@@ -1,7 +1,7 @@
 use Rattle.replay.specs.Printing.{scene_of}
 use Rattle.replay.specs.Shown.{cause_of, event_told, trail}
 use Rattle.replay.proofs.ShownLemmas.{both_printed}
-use Rattle.replay.proofs.replay.print_both.Goals as goal
+use Rattle.replay.proofs.giving.print_both.Goals as goal
 
 pub returns-clause-printed : goal.returns-clause-printed
 returns-clause-printed g c =

@@ -1,7 +1,7 @@
 use Rattle.std.proofs.Common.{ℕ, List, [], ◌∷◌, subst}
 use Rattle.replay.specs.Printing.{PrintsGiven, scene_of}
 use Rattle.replay.specs.Shown.{a_set, cause_of, given_at, trail}
-use Rattle.replay.proofs.replay.print_all.Goals as goal
+use Rattle.replay.proofs.giving.print_all.Goals as goal
 
 pub returns-in_ok-behind-in-Set-clause-printed : goal.returns-in_ok-behind-in-Set-clause-printed
 returns-in_ok-behind-in-Set-clause-printed g c =
