@@ -18,7 +18,7 @@ use Rattle.udp.specs.Noted.{HasRoom, NotesAll}
 
 entries_count : {A : Type 0} (entry : List ℕ → A) (size n : ℕ) (bytes : List ℕ) → length (entries_from entry size n bytes) ≡ n
 entries_count entry size zero bytes = refl
-entries_count entry size (suc n) bytes = ap suc (entries_count entry size n (drop size bytes))
+entries_count entry size (suc n) bytes = ap (λ (m : ℕ). suc m) (entries_count entry size n (drop size bytes))
 
 blocks_count : (bytes : List ℕ) → length (blocks_in bytes) ≡ length bytes / 24
 unfolding blocks_in
@@ -118,11 +118,10 @@ entries_of_size (Some bytes) = entries_within bytes
 pub notes_all : (datagram : List ℕ) (packets : List RtcpPacket) (n : Notes) → ReadsRtcp datagram packets → length datagram ≤ 65535 → HasRoom n
     → AreNoted n (map packet_content packets) → NotesAll n (map packet_content packets)
 notes_all datagram packets n reads fits room noted =
-    let size = ap length reads.bytes_are in
-    let blocks = flat_map blocks_said (map packet_content packets) in
-    let entries = last_notice (map packet_content packets) in
-    let few_blocks : length blocks ≤ n.most_blocks = omega (arith, blocks_of_all packets, size, fits, room.blocks) in
-    let few_entries : length entries ≤ n.most_entries =
+    let size : length datagram ≡ length (flat_map packet_bytes packets) = ap length reads.bytes_are in
+    let few_blocks : length (flat_map blocks_said (map packet_content packets)) ≤ n.most_blocks =
+    omega (arith, blocks_of_all packets, size, fits, room.blocks) in
+    let few_entries : length (last_notice (map packet_content packets)) ≤ n.most_entries =
     omega (
       arith,
       entries_of_size (fold later_notice None (map packet_content packets)),
@@ -133,6 +132,6 @@ notes_all datagram packets n reads fits room noted =
     ) in
     record {
       kinds = noted.kinds;
-      blocks = noted.blocks ∙ take_all n.most_blocks blocks few_blocks;
-      notice = noted.notice ∙ take_all n.most_entries entries few_entries;
+      blocks = noted.blocks ∙ take_all n.most_blocks (flat_map blocks_said (map packet_content packets)) few_blocks;
+      notice = noted.notice ∙ take_all n.most_entries (last_notice (map packet_content packets)) few_entries;
     }
