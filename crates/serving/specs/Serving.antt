@@ -12,8 +12,8 @@ use Rattle.one_thread.specs.declared.driver.DriveFault.{DriveFault}
 use Rattle.one_thread.specs.declared.driver.DriveFault.TheVariants as drive_fault
 use Rattle.recording.specs.declared.faults.WriterFault.{WriterFault}
 use Rattle.recording.specs.declared.faults.WriterFault.TheVariants as writer_fault
-use Rattle.workers.specs.declared.fault.UnitFault.{UnitFault}
-use Rattle.workers.specs.declared.fault.UnitFault.TheVariants as unit_fault
+use Rattle.worker_threads.specs.declared.fault.UnitFault.{UnitFault}
+use Rattle.worker_threads.specs.declared.fault.UnitFault.TheVariants as unit_fault
 use Rattle.cli.specs.declared.status.Status.{Status}
 use Rattle.cli.specs.declared.status.Status.TheVariants as status
 

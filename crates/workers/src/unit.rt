@@ -3,11 +3,7 @@
 ghost use Rattle.std.specs.Prelude.{◌≡◌, ◌+◌, length, vec_len, IfOk};
 ghost use Rattle.rate_desk.specs.Gathered.{AreDesksOf};
 
-use crate::counts::Counts;
-use crate::fault::UnitFault;
 use crate::given::Outside;
-use crate::scope::{Shared, run_scoped};
-use crate::turns::Inlet;
 use desk::Desk;
 use entrance::{Direct, Entrance, Kept};
 use ports::{
@@ -21,6 +17,7 @@ use std::marker::Brand;
 use std::sync::Wait;
 use std::sync::ledger::Blank;
 use std::thread::Threads;
+use worker_threads::{Counts, Inlet, Shared, UnitFault, run_scoped};
 
 /// What a run came to. Each count stays at `u64::MAX` once there.
 #[derive(Drop)]

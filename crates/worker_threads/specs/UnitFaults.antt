@@ -4,8 +4,8 @@ use Rattle.routes.specs.declared.opening.RoutesFault.{RoutesFault}
 use Rattle.routes.specs.declared.opening.RoutesFault.TheVariants.{NoPlace, NoMemory as no_memory_for_routes}
 use Rattle.rate_desk.specs.declared.receipt.GatherFault.{GatherFault}
 use Rattle.rate_desk.specs.declared.receipt.GatherFault.TheVariants.{Differs, Twice, Folded, Seats, Totals, NoMemory as no_memory_to_gather}
-use Rattle.workers.specs.declared.fault.UnitFault.{UnitFault}
-use Rattle.workers.specs.declared.fault.UnitFault.TheVariants.{NoMemory, Receive, Start, Gather}
+use Rattle.worker_threads.specs.declared.fault.UnitFault.{UnitFault}
+use Rattle.worker_threads.specs.declared.fault.UnitFault.TheVariants.{NoMemory, Receive, Start, Gather}
 
 abbrev pub unit_fault_number : UnitFault → ℕ
 unit_fault_number NoMemory = 1

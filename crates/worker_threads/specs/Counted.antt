@@ -4,7 +4,7 @@ use Rattle.std.specs.declared.alloc.AllocError.{AllocError}
 use Rattle.forwarding.specs.declared.done.Forwarded.{Forwarded}
 use Rattle.forwarding.specs.declared.done.ForwardFault.{ForwardFault}
 use Rattle.forwarding.specs.declared.done.ForwardFault.TheVariants.{NoView, NoMemory}
-use Rattle.workers.specs.declared.counts.Outcome.{Outcome}
+use Rattle.worker_threads.specs.declared.counts.Outcome.{Outcome}
 
 -- what was sent and couldn't be, or one more that was given up
 abbrev pub outcome_of : Result Forwarded ForwardFault → Outcome

@@ -24,7 +24,7 @@ pub enum UnitFault {
 
 impl UnitFault {
     ghost use Rattle.std.specs.Prelude.{◌≡◌};
-    ghost use Rattle.workers.specs.UnitFaults.{unit_fault_number};
+    ghost use Rattle.worker_threads.specs.UnitFaults.{unit_fault_number};
 
     /// Its number: 1 to 4.
     pub fn number(self) -> u8
@@ -41,7 +41,7 @@ impl UnitFault {
 
 impl From<AllocError> for UnitFault {
     ghost use Rattle.std.specs.Prelude.{◌≡◌};
-    ghost use Rattle.workers.specs.declared.fault.UnitFault.TheVariants.{NoMemory};
+    ghost use Rattle.worker_threads.specs.declared.fault.UnitFault.TheVariants.{NoMemory};
 
     ghost from_gives = { λ _ fault. fault ≡ NoMemory };
 
@@ -52,7 +52,7 @@ impl From<AllocError> for UnitFault {
 
 impl From<RoutesFault> for UnitFault {
     ghost use Rattle.std.specs.Prelude.{◌≡◌};
-    ghost use Rattle.workers.specs.UnitFaults.{fault_of_routes};
+    ghost use Rattle.worker_threads.specs.UnitFaults.{fault_of_routes};
 
     ghost from_gives = { λ of fault. fault ≡ fault_of_routes of };
 
@@ -66,7 +66,7 @@ impl From<RoutesFault> for UnitFault {
 
 impl From<GatherFault> for UnitFault {
     ghost use Rattle.std.specs.Prelude.{◌≡◌};
-    ghost use Rattle.workers.specs.UnitFaults.{fault_of_gathering};
+    ghost use Rattle.worker_threads.specs.UnitFaults.{fault_of_gathering};
 
     ghost from_gives = { λ of fault. fault ≡ fault_of_gathering of };
 

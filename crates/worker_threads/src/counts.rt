@@ -2,7 +2,7 @@
 
 ghost use Rattle.std.specs.Prelude.{◌≡◌, IfSome};
 ghost use Rattle.core_steps.specs.Happening.{capped_count};
-ghost use Rattle.workers.specs.Counted.{outcome_of};
+ghost use Rattle.worker_threads.specs.Counted.{outcome_of};
 
 use crate::recess::Recess;
 use crossbeam_utils::CachePadded;
@@ -25,7 +25,7 @@ pub struct Counts {
 
 impl Counts {
     /// The counts of a unit with so many workers, which did nothing yet.
-    pub(crate) fn new(alloc: Global, workers: u16) -> Result<Counts, AllocError> {
+    pub fn new(alloc: Global, workers: u16) -> Result<Counts, AllocError> {
         let mut stations = Vec::with_capacity(alloc, usize::from(workers))?;
         for number in 0..workers {
             stations.push(CachePadded::new(Station::new(number)))?;

@@ -11,14 +11,15 @@ use std::sync::Wait;
 
 /// What the turns take from outside.
 #[derive(Drop)]
-pub(crate) struct Inlet<E: Drop, W: Drop> {
-    pub(crate) entrance: E,
-    pub(crate) watch: W,
-    pub(crate) faults: Faults,
+pub struct Inlet<E: Drop, W: Drop> {
+    entrance: E,
+    watch: W,
+    faults: Faults,
 }
 
 impl<E: Entrance + Drop, W: Watch + Drop> Inlet<E, W> {
-    pub(crate) fn new(entrance: E, watch: W) -> Inlet<E, W> {
+    /// The entrance and the watch of a run.
+    pub fn new(entrance: E, watch: W) -> Inlet<E, W> {
         Inlet {
             entrance,
             watch,

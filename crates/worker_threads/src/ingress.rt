@@ -9,8 +9,8 @@ ghost use Rattle.events.specs.declared.event.Event.TheVariants.{Hear, Select, Ti
 ghost use Rattle.core_steps.specs.Rule.{Does};
 ghost use Rattle.core_steps.specs.Run.{Leaves};
 ghost use Rattle.members.specs.Rows.{changes_by};
-ghost use Rattle.workers.specs.Counted.{counted_of};
-ghost use Rattle.workers.specs.Room.{may_wait};
+ghost use Rattle.worker_threads.specs.Counted.{counted_of};
+ghost use Rattle.worker_threads.specs.Room.{may_wait};
 
 use crate::counts::{Counts, Outcome, outcome_of};
 use crate::gear::Gear;

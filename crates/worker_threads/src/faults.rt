@@ -20,7 +20,7 @@ impl Model for Faults {
 
 impl Faults {
     ghost use Rattle.std.specs.Prelude.{◌≡◌, ◌≤◌, ◌↔◌, IsTrue, is_ok};
-    ghost use Rattle.workers.specs.Faults.{faults_after};
+    ghost use Rattle.worker_threads.specs.Faults.{faults_after};
 
     /// No receive failed yet.
     pub(crate) fn new() -> Faults

@@ -24,16 +24,17 @@ use std::thread::{JoinHandle, Scope, Threads};
 
 /// What the threads of a run share.
 #[derive(Drop)]
-pub(crate) struct Shared<'a, D: DeskCalls, C: SeatCalls, G> {
-    pub(crate) alloc: Global,
-    pub(crate) settings: &'a Settings,
-    pub(crate) house: &'a House<D, C>,
-    pub(crate) gate: &'a G,
-    pub(crate) counts: &'a Counts,
+pub struct Shared<'a, D: DeskCalls, C: SeatCalls, G> {
+    pub alloc: Global,
+    pub settings: &'a Settings,
+    pub house: &'a House<D, C>,
+    pub gate: &'a G,
+    pub counts: &'a Counts,
 }
 
-/// Runs the threads in a scope; hands the seats back.
-pub(crate) fn run_scoped<
+/// Runs the unit's threads for so many turns, and joins them; hands the seats back. There is a sink for each worker, by its number, and last
+/// one for the ingress, which runs in this thread.
+pub fn run_scoped<
     'a,
     D: DeskCalls + Send + Sync + 'a,
     C: SeatCalls + Send + Sync + 'a,

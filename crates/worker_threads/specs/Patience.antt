@@ -1,7 +1,7 @@
 -- How often the ingress looks in a second whether its workers are done.
 use Rattle.std.specs.Prelude.{ℕ, ◌+◌, ◌-◌, Bool, ◌||◌, nat_lt, nat_le, if◌then◌else◌}
-use Rattle.workers.specs.declared.settling.Patience.{Patience}
-use Rattle.workers.specs.declared.settling.TheConstants.{LOOKS_A_SECOND}
+use Rattle.worker_threads.specs.declared.settling.Patience.{Patience}
+use Rattle.worker_threads.specs.declared.settling.TheConstants.{LOOKS_A_SECOND}
 
 -- the second that began then has passed; a moment before it is of another one, too
 abbrev pub is_later : ℕ → ℕ → Bool

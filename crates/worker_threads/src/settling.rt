@@ -2,7 +2,7 @@
 //! room in their rings.
 
 ghost use Rattle.std.specs.Prelude.{◌≡◌};
-ghost use Rattle.workers.specs.Patience.{is_later};
+ghost use Rattle.worker_threads.specs.Patience.{is_later};
 
 use crate::counts::Counts;
 use crate::lane::Crew;
@@ -30,7 +30,7 @@ pub(crate) struct Patience {
 
 impl Patience {
     ghost use Rattle.std.specs.Prelude.{◌≡◌, nat_lt};
-    ghost use Rattle.workers.specs.Patience.{patience_after, patience_at};
+    ghost use Rattle.worker_threads.specs.Patience.{patience_after, patience_at};
 
     /// That of the second which begins at this moment.
     pub(crate) fn new(moment: u64) -> Patience
