@@ -7,7 +7,7 @@ use Rattle.std.proofs.lemmas.Bool.{eqb-true}
 use Rattle.std.proofs.lemmas.List.Folds.{list_any-append}
 use Rattle.tmmbr_tuple.specs.declared.ssrc.Ssrc.{Ssrc}
 use Rattle.rtcp_feedback.specs.declared.tmmb.TmmbrEntry.{TmmbrEntry}
-use Rattle.policy.specs.AnnouncedSets.{IsHeldInVain, IsUnacknowledged, SetHappening, SetState, are_acknowledged, asked_for, asks_again, came_anew, has_notified, is_among, is_lifted_again, is_own, is_same, is_some_set, live_last, looked_at, may_hold, named_before, named_since, names_owner, notified, set_after, acknowledged_last, who_left, with_left}
+use Rattle.policy.specs.AnnouncedSets.{IsHeldInVain, IsUnacknowledged, SetHappening, SetState, are_acknowledged, asked_for, asks_again, came_anew, has_asked_last, has_notified, is_among, is_lifted_again, is_own, is_same, is_some_set, live_last, looked_at, may_be_named, may_hold, named_before, named_since, names_owner, notified, set_after, acknowledged_last, with_passers}
 
 told_is : (happenings : List SetHappening) → (set_after happenings).acknowledged ≡ acknowledged_last happenings
 told_is [] = refl
@@ -86,16 +86,24 @@ live_is (notified entries ∷ earlier) = live_is earlier
 live_is (came_anew ∷ earlier) = refl
 live_is (looked_at set live ∷ earlier) = refl
 
--- who left is noted behind those that asked
-left_is : (happenings : List SetHappening) (live : List TmmbrEntry) (owner : Ssrc)
-    → is_among (with_left live (set_after happenings)).recent owner
-    ≡ is_among (named_since happenings ++ who_left live (live_last happenings)) owner
-left_is happenings live owner =
+asked_is : (happenings : List SetHappening) → (set_after happenings).has_asked_since ≡ has_asked_last happenings
+asked_is [] = refl
+asked_is (asked_for who ∷ earlier) = refl
+asked_is (notified entries ∷ earlier) = asked_is earlier
+asked_is (came_anew ∷ earlier) = refl
+asked_is (looked_at set live ∷ earlier) = refl
+
+-- whom the set may have named is noted behind those that asked
+passers_are : (happenings : List SetHappening) (live : List TmmbrEntry) (owner : Ssrc)
+    → is_among (with_passers live (set_after happenings)).recent owner
+    ≡ is_among (named_since happenings ++ may_be_named (has_asked_last happenings) live (live_last happenings)) owner
+passers_are happenings live owner =
     let s : SetState = set_after happenings in
-    list_any-append (λ (o : Ssrc). o.0 == owner.0) s.recent (who_left live s.live)
-    ∙ ap (λ (b : Bool). b || is_among (who_left live s.live) owner) (recent_is happenings owner)
-    ∙ ap (λ (owners : List Ssrc). is_among (named_since happenings) owner || is_among (who_left live owners) owner) (live_is happenings)
-    ∙ sym (list_any-append (λ (o : Ssrc). o.0 == owner.0) (named_since happenings) (who_left live (live_last happenings)))
+    list_any-append (λ (o : Ssrc). o.0 == owner.0) s.recent (may_be_named s.has_asked_since live s.live)
+    ∙ ap (λ (b : Bool). b || is_among (may_be_named s.has_asked_since live s.live) owner) (recent_is happenings owner)
+    ∙ ap (λ (owners : List Ssrc). is_among (named_since happenings) owner || is_among (may_be_named s.has_asked_since live owners) owner) (live_is happenings)
+    ∙ ap (λ (b : Bool). is_among (named_since happenings) owner || is_among (may_be_named b live (live_last happenings)) owner) (asked_is happenings)
+    ∙ sym (list_any-append (λ (o : Ssrc). o.0 == owner.0) (named_since happenings) (may_be_named (has_asked_last happenings) live (live_last happenings)))
 
 earlier_is : (happenings : List SetHappening) (owner : Ssrc)
     → is_among (set_after happenings).earlier owner ≡ is_among (named_before happenings) owner
@@ -103,7 +111,7 @@ earlier_is [] owner = refl
 earlier_is (asked_for who ∷ earlier) owner = earlier_is earlier owner
 earlier_is (notified entries ∷ earlier) owner = earlier_is earlier owner
 earlier_is (came_anew ∷ earlier) owner = refl
-earlier_is (looked_at set live ∷ earlier) owner = left_is earlier live owner
+earlier_is (looked_at set live ∷ earlier) owner = passers_are earlier live owner
 
 not_the_first : (a b c : Bool) → ((not a && not b) && c) ≡ true → a ≡ false
 not_the_first true b c h = absurd (cc)
@@ -129,9 +137,9 @@ if_silent true named was h is = absurd (cc)
 if_silent false named was h is = h
 
 pub lifts_the_gone : (happenings : List SetHappening) (set live : List TmmbrEntry) (own : Option Ssrc) (owner : Ssrc)
-    → is_lifted_again (with_left live (set_after happenings)) set own owner ≡ true → IsHeldInVain happenings set live own owner
+    → is_lifted_again (with_passers live (set_after happenings)) set own owner ≡ true → IsHeldInVain happenings set live own owner
 lifts_the_gone happenings set live own owner lifted =
-    let s : SetState = with_left live (set_after happenings) in
+    let s : SetState = with_passers live (set_after happenings) in
     let by_told : Bool = names_owner s.acknowledged owner in
     let same : Bool = pointwise is_same set s.seen in
     let lately : Bool = is_among s.recent owner || is_among s.earlier owner in
@@ -144,7 +152,7 @@ lifts_the_gone happenings set live own owner lifted =
           ap (λ (acknowledged : List TmmbrEntry). names_owner acknowledged owner) (sym (told_is happenings))
           ∙ if_told s.has_acknowledged by_told same lately holds (has_told_is happenings ∙ notifies);
       lately = λ silent.
-          ap (λ (b : Bool). b || is_among (named_before happenings) owner) (sym (left_is happenings live owner))
+          ap (λ (b : Bool). b || is_among (named_before happenings) owner) (sym (passers_are happenings live owner))
           ∙ ap (λ (b : Bool). is_among s.recent owner || b) (sym (earlier_is happenings owner))
           ∙ if_silent s.has_acknowledged (by_told && same) lately holds (has_told_is happenings ∙ silent);
     }

@@ -8,11 +8,12 @@ use Rattle.rtcp_feedback.specs.declared.tmmb.TmmbrEntry.{TmmbrEntry}
 use Rattle.policy.specs.declared.announced_sets.DueLook.{DueLook}
 use Rattle.policy.specs.declared.announced_sets.DueLook.TheVariants.{Presence, Desk}
 
--- since a publisher came last: whether anybody asked it for a rate; the announced set that was seen last, and the owners whose requests were
--- live then; the owners that the set named, and those that asked or left since that look; the same of the look before, up to that; whether it
--- notified, and of what last
+-- since a publisher came last: whether anybody asked it for a rate, and since the last look; the announced set that was seen then, and the owners
+-- whose requests were live; the owners that the set named, and those that it may have named since; the same of the look before, up to that;
+-- whether it notified, and of what last
 pub record SetState : Type 0 where
   pub is_asked : Bool
+  pub has_asked_since : Bool
   pub seen : List TmmbrEntry
   pub live : List Ssrc
   pub recent : List Ssrc
@@ -21,7 +22,7 @@ pub record SetState : Type 0 where
   pub acknowledged : List TmmbrEntry
 
 abbrev pub new_set : SetState
-new_set = record { is_asked = false; seen = []; live = []; recent = []; earlier = []; has_acknowledged = false; acknowledged = [] }
+new_set = record { is_asked = false; has_asked_since = false; seen = []; live = []; recent = []; earlier = []; has_acknowledged = false; acknowledged = [] }
 
 -- this owner is among these
 abbrev pub is_among : List Ssrc → Ssrc → Bool
@@ -35,15 +36,21 @@ owner_of e = e.ssrc
 
 -- this owner asks for a rate, so that the set may name it (RFC 5104, section 4.2.1)
 abbrev pub set_asked : Ssrc → SetState → SetState
-set_asked owner s = record s { is_asked = true; recent = with_owner owner s.recent }
+set_asked owner s =
+    record s { is_asked = true; has_asked_since = true; recent = with_owner owner s.recent }
 
 abbrev pub set_acknowledged : List TmmbrEntry → SetState → SetState
 set_acknowledged entries s = record s { has_acknowledged = true; acknowledged = entries }
 
 -- the set that was seen last, with what is live: its owners are the latest, until others ask or leave
 abbrev pub set_seen : List TmmbrEntry → List TmmbrEntry → SetState → SetState
-set_seen set live s =
-    record s { seen = set; live = map owner_of live; recent = map owner_of set; earlier = s.recent }
+set_seen set live s = record s {
+  has_asked_since = false;
+  seen = set;
+  live = map owner_of live;
+  recent = map owner_of set;
+  earlier = s.recent;
+}
 
 -- its desk is looked at: it was asked for a rate, or notified
 abbrev pub is_watched : SetState → Bool
@@ -70,20 +77,26 @@ asks_again s set = (is_some_set set && pointwise is_same set s.seen) && not (are
 abbrev pub names_owner : List TmmbrEntry → Ssrc → Bool
 names_owner entries owner = list_any (λ (e : TmmbrEntry). e.ssrc.0 == owner.0) entries
 
--- of these owners those that left: none of their requests is live any more
-abbrev pub who_left : List TmmbrEntry → List Ssrc → List Ssrc
-who_left live owners = filter (λ o. not (names_owner live o)) owners
+-- one of these owners left: none of its requests is live any more
+abbrev pub has_left : List TmmbrEntry → List Ssrc → Bool
+has_left live owners = list_any (λ o. not (names_owner live o)) owners
 
--- What is known as a look begins: who left since the last one may have been in the set for a while, since others left (RFC 5104, section 4.2.1).
-abbrev pub with_left : List TmmbrEntry → SetState → SetState
-with_left live s = record s { recent = s.recent ++ who_left live s.live }
+-- Whom the set may have named for a while since a look at which requests of these owners were live. While nobody asks and nobody leaves it stays as
+-- it is. Else each of them may have come into it, since others left, and out of it again (RFC 5104, section 4.2.1).
+abbrev pub may_be_named : Bool → List TmmbrEntry → List Ssrc → List Ssrc
+may_be_named has_asked live owners = if has_asked || has_left live owners then owners else []
+
+-- what is known as a look begins at which these requests are live
+abbrev pub with_passers : List TmmbrEntry → SetState → SetState
+with_passers live s =
+    record s { recent = s.recent ++ may_be_named s.has_asked_since live s.live }
 
 -- a look at a set, with what is live
 abbrev pub set_looked : List TmmbrEntry → List TmmbrEntry → SetState → SetState
-set_looked set live s = set_seen set live (with_left live s)
+set_looked set live s = set_seen set live (with_passers live s)
 
 -- The publisher may still keep to a bound of this owner: its last notification names it, and the set has been so since the last look; or, if
--- it never notified, one of the last two sets that were seen named it, or it asked or left since the earlier one.
+-- it never notified, one of the last two sets that were seen named it, or may have named it since the earlier one.
 abbrev pub may_hold : SetState → List TmmbrEntry → Ssrc → Bool
 may_hold s set owner =
     if s.has_acknowledged then names_owner s.acknowledged owner && pointwise is_same set s.seen
@@ -116,7 +129,7 @@ said_nothing = record { asks = false; lifted = [] }
 
 abbrev pub said_of : Option SetState → List TmmbrEntry → List TmmbrEntry → Option Ssrc → List Ssrc → SaidState
 said_of None set live own sources = said_nothing
-said_of (Some s) set live own sources = said_again (with_left live s) set own sources
+said_of (Some s) set live own sources = said_again (with_passers live s) set own sources
 
 -- ---- all publishers
 
@@ -230,6 +243,14 @@ named_since (notified entries ∷ earlier) = named_since earlier
 named_since (came_anew ∷ earlier) = []
 named_since (looked_at set live ∷ earlier) = map owner_of set
 
+-- whether anybody asked since the set was seen last
+abbrev pub has_asked_last : List SetHappening → Bool
+has_asked_last [] = false
+has_asked_last (asked_for owner ∷ earlier) = true
+has_asked_last (notified entries ∷ earlier) = has_asked_last earlier
+has_asked_last (came_anew ∷ earlier) = false
+has_asked_last (looked_at set live ∷ earlier) = false
+
 -- whose requests were live when the set was seen last
 abbrev pub live_last : List SetHappening → List Ssrc
 live_last [] = []
@@ -238,13 +259,14 @@ live_last (notified entries ∷ earlier) = live_last earlier
 live_last (came_anew ∷ earlier) = []
 live_last (looked_at set live ∷ earlier) = map owner_of live
 
--- whom the set named before the look at which it was seen last, and who asked or left between that one and this
+-- whom the set named before the look at which it was seen last, who asked between that one and this, and whom it may have named there
 abbrev pub named_before : List SetHappening → List Ssrc
 named_before [] = []
 named_before (asked_for owner ∷ earlier) = named_before earlier
 named_before (notified entries ∷ earlier) = named_before earlier
 named_before (came_anew ∷ earlier) = []
-named_before (looked_at set live ∷ earlier) = named_since earlier ++ who_left live (live_last earlier)
+named_before (looked_at set live ∷ earlier) =
+    named_since earlier ++ may_be_named (has_asked_last earlier) live (live_last earlier)
 
 -- The set isn't empty, and what the publisher notified of last doesn't list all of it (RFC 5104, section 4.2.2).
 pub record IsUnacknowledged (happenings : List SetHappening) (set : List TmmbrEntry) : Type 0 where
@@ -252,12 +274,13 @@ pub record IsUnacknowledged (happenings : List SetHappening) (set : List TmmbrEn
   pub untold : are_acknowledged (acknowledged_last happenings) set ≡ false
 
 -- The set doesn't name the owner, which isn't the publisher itself. If the publisher notified since it came, its last notification names the
--- owner; if not, one of the last two sets that were seen named it, or it asked since the earlier one, or left: so no third look after finds it.
+-- owner; if not, one of the last two sets that were seen named it, or it asked since the earlier one, or the set may have named it since: so no third
+-- look after finds it.
 pub record IsHeldInVain (happenings : List SetHappening) (set live : List TmmbrEntry) (own : Option Ssrc) (owner : Ssrc)
     : Type 0 where
   pub other : is_own own owner ≡ false
   pub gone : names_owner set owner ≡ false
   pub named : has_notified happenings ≡ true → names_owner (acknowledged_last happenings) owner ≡ true
   pub lately : has_notified happenings ≡ false
-      → (is_among (named_since happenings ++ who_left live (live_last happenings)) owner
+      → (is_among (named_since happenings ++ may_be_named (has_asked_last happenings) live (live_last happenings)) owner
       || is_among (named_before happenings) owner) ≡ true

@@ -103,8 +103,8 @@ impl AnnouncedSets {
     /// What is said again to the publisher with this number at a look at its announced set and its live requests, in a unit whose endpoints have
     /// these sources. The set is sent again if it isn't empty, was seen at the last look, and the publisher's last TMMBN since it came doesn't
     /// list all of it. A source that the set doesn't name is lifted again, each time, if the set was seen at the last look and that TMMBN names
-    /// it. If there was no TMMBN, it is lifted at the two looks after the set named it last, or it asked or left last. The publisher's own never
-    /// is. The set is what was seen last from now on. Refused for want of memory alone.
+    /// it. If there was no TMMBN, it is lifted at the two looks after the set named it last, or may have: it asked, or it was live, and somebody
+    /// asked or left. The publisher's own never is. The set is what was seen last from now on. Refused for want of memory alone.
     pub fn look(
         &mut self,
         alloc: Global,

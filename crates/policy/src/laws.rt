@@ -22,7 +22,7 @@ ghost use Rattle.policy.specs.JoinedPublishers.{is_due};
 ghost use Rattle.policy.specs.HeldRequests.{HearsAgain};
 ghost use Rattle.policy.specs.Requests.{Happening, HoldsLast};
 ghost use Rattle.policy.specs.RequestGaps.{AreGapsApart, GapHappening, IsHeardInTheEnd, IsNotLost, is_past, last_moment, word_asked_last, words_heard};
-ghost use Rattle.policy.specs.AnnouncedSets.{IsHeldInVain, IsUnacknowledged, SetHappening, asks_again, is_lifted_again, set_after, with_left};
+ghost use Rattle.policy.specs.AnnouncedSets.{IsHeldInVain, IsUnacknowledged, SetHappening, asks_again, is_lifted_again, set_after, with_passers};
 ghost use Rattle.tmmbr_tuple.specs.declared.ssrc.Ssrc.{Ssrc};
 ghost use Rattle.policy.specs.declared.again.Again.{Again};
 ghost use Rattle.policy.specs.declared.held_requests.HeldRequests.{HeldRequests};
@@ -108,7 +108,7 @@ pub fn asks_for_what_was_not_acknowledged()
 #[tactic(auto, using(crate::proofs::SetLemmas::lifts_the_gone))]
 pub fn lifts_who_is_held_in_vain()
     ensures { (happenings : List SetHappening) (set live : List TmmbrEntry) (own : Option Ssrc) (owner : Ssrc)
-        → is_lifted_again (with_left live (set_after happenings)) set own owner ≡ true
+        → is_lifted_again (with_passers live (set_after happenings)) set own owner ≡ true
         → IsHeldInVain happenings set live own owner }
 {}
 

@@ -1,9 +1,9 @@
 //! What a publisher is asked again: which announced set, and whose bounds are lifted.
 
-ghost use Rattle.std.specs.Prelude.{◌≡◌, ◌≤◌, ◌++◌, IfOk, OnOk, filter, length, map, slice_get};
+ghost use Rattle.std.specs.Prelude.{◌≡◌, ◌≤◌, IfOk, OnOk, filter, length, map, slice_get};
 ghost use Rattle.std.specs.Cmp.Lexicographic.{pointwise};
 ghost use Rattle.std.specs.List.{list_all, list_any};
-ghost use Rattle.policy.specs.AnnouncedSets.{is_among, is_lifted_again, is_own, is_same, names_owner, owner_of, who_left, with_owner};
+ghost use Rattle.policy.specs.AnnouncedSets.{has_left, is_among, is_lifted_again, is_own, is_same, names_owner, owner_of, with_owner};
 
 use crate::said::SaidAgain;
 use rtcp_feedback::TmmbrEntry;
@@ -17,11 +17,13 @@ use tmmbr_tuple::Ssrc;
 pub(crate) struct PublisherSet {
     /// Whether anybody asked it for a rate.
     is_asked: bool,
+    /// Whether anybody did since its set was seen last.
+    has_asked_since: bool,
     /// The announced set that was seen last.
     seen: Vec<TmmbrEntry>,
     /// The owners whose requests were live then.
     live: Vec<Ssrc>,
-    /// The owners that it named then, and those that asked for a rate or left since.
+    /// The owners that it named then, and those that it may have named since.
     recent: Vec<Ssrc>,
     /// The same of the look before, up to that one.
     earlier: Vec<Ssrc>,
@@ -38,6 +40,7 @@ impl Model for PublisherSet {
 
     ghost view = { λ p. record {
       is_asked = p.is_asked;
+      has_asked_since = p.has_asked_since;
       seen = p.seen.items;
       live = p.live.items;
       recent = p.recent.items;
@@ -49,7 +52,7 @@ impl Model for PublisherSet {
 
 impl PublisherSet {
     ghost use Rattle.std.specs.Prelude.{◌≡◌, ◌≤◌, OnOk, IfOk, length, slice_get};
-    ghost use Rattle.policy.specs.AnnouncedSets.{asks_again, is_lifted_again, is_watched, may_hold, new_set, said_again, set_acknowledged, set_asked, set_looked, set_seen, with_left};
+    ghost use Rattle.policy.specs.AnnouncedSets.{asks_again, is_lifted_again, is_watched, may_hold, new_set, said_again, set_acknowledged, set_asked, set_looked, set_seen, with_passers};
 
     /// Nobody asked it yet.
     pub(crate) fn new(alloc: Global) -> PublisherSet
@@ -57,6 +60,7 @@ impl PublisherSet {
     {
         PublisherSet {
             is_asked: false,
+            has_asked_since: false,
             seen: Vec::new(alloc),
             live: Vec::new(alloc),
             recent: Vec::new(alloc),
@@ -78,6 +82,7 @@ impl PublisherSet {
         ensures { OnOk result (self.new ≡ set_asked owner self.old) }
     {
         self.is_asked = true;
+        self.has_asked_since = true;
         note_owner(&mut self.recent, owner)
     }
 
@@ -86,6 +91,7 @@ impl PublisherSet {
         ensures { self.new ≡ new_set }
     {
         self.is_asked = false;
+        self.has_asked_since = false;
         self.seen.clear();
         self.live.clear();
         self.recent.clear();
@@ -114,22 +120,25 @@ impl PublisherSet {
         sources: &[Ssrc],
     ) -> Result<SaidAgain, AllocError>
         ensures again { IfOk result (λ said. said
-            ≡ said_again (with_left live.now self.old) set.now (slice_get sources.now number) sources.now) }
+            ≡ said_again (with_passers live.now self.old) set.now (slice_get sources.now number) sources.now) }
         ensures few { IfOk result (λ said. length said.lifted ≤ length sources.now) }
         ensures seen { OnOk result (self.new ≡ set_looked set.now live.now self.old) }
     {
-        self.note_left(live)?;
+        self.note_passers(live)?;
         let own = source_at(sources, number);
         let said = self.said_again(alloc, set, own, sources)?;
         self.see(set, live)?;
         Ok(said)
     }
 
-    /// Who left is noted like one that asked.
-    fn note_left(&mut self, live: &[TmmbrEntry]) -> Result<(), AllocError>
-        ensures { OnOk result (self.new ≡ with_left live.now self.old) }
+    /// If anybody asked or left since the last look, those whose requests were live then are noted like those that asked.
+    fn note_passers(&mut self, live: &[TmmbrEntry]) -> Result<(), AllocError>
+        ensures { OnOk result (self.new ≡ with_passers live.now self.old) }
     {
-        note_who_left(&mut self.recent, self.live.as_slice(), live)
+        if self.has_asked_since || has_left(live, self.live.as_slice()) {
+            return self.recent.extend_from_slice(self.live.as_slice());
+        }
+        Ok(())
     }
 
     fn said_again(
@@ -151,6 +160,7 @@ impl PublisherSet {
     fn see(&mut self, set: &[TmmbrEntry], live: &[TmmbrEntry]) -> Result<(), AllocError>
         ensures { OnOk result (self.new ≡ set_seen set.now live.now self.old) }
     {
+        self.has_asked_since = false;
         mem::swap(&mut self.earlier, &mut self.recent);
         note_owners(&mut self.recent, set)?;
         note_owners(&mut self.live, live)?;
@@ -169,7 +179,7 @@ impl PublisherSet {
     }
 
     /// Whether this owner, which the set doesn't name, is lifted again. If the publisher sent a TMMBN, the last one names the owner, and the set
-    /// was seen at the last look. If not, the set named the owner then or at the look before, or the owner asked or left since.
+    /// was seen at the last look. If not, the set named the owner then or at the look before, or may have named it since.
     fn is_lifted_again(&self, set: &[TmmbrEntry], own: Option<Ssrc>, owner: Ssrc) -> bool
         ensures { result ≡ is_lifted_again self.now set.now own owner }
     {
@@ -251,20 +261,11 @@ fn note_owner(owners: &mut Vec<Ssrc>, owner: Ssrc) -> Result<(), AllocError>
     Ok(())
 }
 
-/// Of these owners those none of whose requests is live any more are noted, too.
-fn note_who_left(
-    owners: &mut Vec<Ssrc>,
-    before: &[Ssrc],
-    live: &[TmmbrEntry],
-) -> Result<(), AllocError>
-    ensures { OnOk result (owners.new.items ≡ owners.old.items ++ who_left live.now before.now) }
+/// Whether one of these owners left: none of its requests is live any more.
+fn has_left(live: &[TmmbrEntry], owners: &[Ssrc]) -> bool
+    ensures { result ≡ has_left live.now owners.now }
 {
-    for owner in before {
-        if !names_owner(live, *owner) {
-            owners.push(*owner)?;
-        }
-    }
-    Ok(())
+    owners.iter().any(|owner| !names_owner(live, *owner))
 }
 
 /// These are the owners of a list.

@@ -351,7 +351,8 @@ const TOLD: &str = "look 17:\n\
     look nobody:\n";
 
 /// What is said again to one that never does. An owner goes: it is lifted at two looks. Then the other goes, comes back, and goes again. Then
-/// it asks, and goes before the next look. In the end both go between two looks, of whom one was live beside the set: it may have been in it.
+/// it asks, and goes before the next look. Then both go between two looks, of whom one was live beside the set: it may have been in it. In the
+/// end that one stays, and the other asks: it may have been in the set then, too.
 const UNTOLD: &str = "look both:\n\
     look 17: 18\n\
     look 17: set 18\n\
@@ -369,7 +370,12 @@ const UNTOLD: &str = "look both:\n\
     look 17 of both: set\n\
     look nobody: 17 18\n\
     look nobody: 17 18\n\
-    look nobody:\n";
+    look nobody:\n\
+    look 17 of both:\n\
+    want 17:\n\
+    look 17 of both: set 18\n\
+    look 17 of both: set 18\n\
+    look 17 of both: set\n";
 
 /// Writes what is said again to publisher 0 at a look at `SET of LIVE`, or at a set that is all that is live.
 fn look(
