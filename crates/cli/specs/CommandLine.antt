@@ -106,10 +106,13 @@ counted_app =
     with_rule (with_rule (file_app (codes "serve")) (optional_rule (codes "ticks") (pos max_ticks)))
     (optional_rule (codes "status") (pos max_status))
 
+abbrev pub steered_app : App
+steered_app = with_rule counted_app (word_rule (codes "control"))
+
 abbrev pub recorded_app : App
 recorded_app = with_rule
-    (with_rule (with_rule counted_app (word_rule (codes "control"))) (word_rule (codes "record")))
-    (moment_rule (codes "record-limit") 1)
+    (with_rule (with_rule steered_app (word_rule (codes "record"))) (moment_rule (codes "record-limit") 1))
+    (flag_rule (codes "record-next"))
 
 abbrev pub serve_app : App
 serve_app =
@@ -161,7 +164,7 @@ pub data Request : Type 0 where
   bound : ℕ → Request
   check : Text → Request
   replay : Text → Option ℕ → Option ℕ → Option ℕ → Bool → Option ℕ → Bool → Bool → Request
-  serve : Text → Option ℕ → Option ℕ → Option Text → Option (Text × Option ℕ) → Bool → Option Text
+  serve : Text → Option ℕ → Option ℕ → Option Text → Option (Text × Option ℕ × Bool) → Bool → Option Text
       → Request
   draw : ℕ → Request
   version : Request
@@ -170,8 +173,9 @@ pub data Request : Type 0 where
   sdp : Text → List Text → Request
   plan : Text → Request
 
-abbrev pub record_of : Record → Text × Option ℕ
-record_of r = (r.path.now, r.limit)
+-- where a unit is recorded, with the limit, and whether in the next file that isn't there
+abbrev pub record_of : Record → Text × Option ℕ × Bool
+record_of r = (r.path.now, r.limit, r.next)
 
 abbrev pub offline_request : Offline → Request
 offline_request (offline.Bound media) = bound media
@@ -218,11 +222,12 @@ is_set id rows = is_yes (first_of id rows)
 abbrev pub words_in : Text → List Row → List Text
 words_in id rows = unwrap_or (all_of id rows) []
 
--- a record's path with its limit; a limit alone says nothing
-abbrev pub record_with : Option Text → Option ℕ → Option (Option (Text × Option ℕ))
-record_with (Some path) limit = Some (Some (path, limit))
-record_with None None = Some None
-record_with None (Some limit) = None
+-- a record's path with what is said of it; without a path that says nothing
+abbrev pub record_with : Option Text → Option ℕ → Bool → Option (Option (Text × Option ℕ × Bool))
+record_with (Some path) limit next = Some (Some (path, limit, next))
+record_with None None false = Some None
+record_with None None true = None
+record_with None (Some limit) next = None
 
 -- what `serve` asks for with these values
 abbrev pub serve_named : List Row → Option Request
@@ -232,7 +237,8 @@ serve_named rows = option_and_then
     (first_of (codes "control") rows) recorded (is_set (codes "log-time") rows)
     (first_of (codes "numbers") rows))
     (first_of (codes "FILE") rows))
-    (record_with (first_of (codes "record") rows) (moment_in (codes "record-limit") rows))
+    (record_with (first_of (codes "record") rows) (moment_in (codes "record-limit") rows)
+    (is_set (codes "record-next") rows))
 
 -- what a subcommand of this name asks for that has no list of words
 abbrev pub plain_named : Text → List Row → Option Request

@@ -74,6 +74,9 @@ const RECORD_HELP: &str =
 
 const RECORD_LIMIT_HELP: &str = "Ends the record before it has more bytes: from 1 on";
 
+const RECORD_NEXT_HELP: &str =
+    "Records in the next file that isn't there, PATH.1, PATH.2 and so on, if PATH is";
+
 const NUMBERS_HELP: &str =
     "Has legs begin beyond the numbers that are noted in this file, and notes theirs there";
 
@@ -210,6 +213,7 @@ fn serve_command<'a>(alloc: Global) -> Result<Command<'a>, AllocError>
         serve,
         moment(alloc, "record-limit", "BYTES", RECORD_LIMIT_HELP, 1),
     );
+    let serve = asking(serve, flag(alloc, "record-next", RECORD_NEXT_HELP));
     let serve = asking(serve, optional_word(alloc, "numbers", "PATH", NUMBERS_HELP));
     asking(serve, flag(alloc, "log-time", LOG_TIME_HELP))
 }

@@ -82,6 +82,8 @@ pub enum Offline<'a> {
 pub struct Record<'a> {
     pub path: &'a str,
     pub limit: Option<u64>,
+    /// Whether the next file is begun that isn't there, if one is at the path.
+    pub next: bool,
 }
 
 /// The action that the words ask for, of which the first is the program's name.
@@ -116,7 +118,7 @@ fn found_in<'a>(
         // (all else that an action needs is required by the command line itself)
         None => Err(command.error(
             ErrorKind::MissingRequiredArgument,
-            "--record-limit is of no use without --record",
+            "--record-limit is of no use without --record, nor is --record-next",
         )?),
     }
 }
@@ -211,13 +213,14 @@ fn plain_named<'a>(name: &str, matches: &ArgMatches<'a>) -> Option<Action<'a>>
     }
 }
 
-/// A unit that is to be served; `None` if a record has a limit and no path.
+/// A unit that is to be served; `None` if something is said of a record that has no path.
 fn serve_named<'a>(matches: &ArgMatches<'a>) -> Option<Action<'a>>
     ensures { option_map action_request result ≡ serve_named (rows_of (found_of matches.now)) }
 {
     let path = matches.get_str("record");
     let limit = moment_in(matches, "record-limit");
-    let record = record_with(path, limit)?;
+    let next = is_set(matches, "record-next");
+    let record = record_with(path, limit, next)?;
     Some(Action::Serve {
         file: matches.get_str("FILE")?,
         ticks: number_in(matches, "ticks"),
@@ -229,15 +232,16 @@ fn serve_named<'a>(matches: &ArgMatches<'a>) -> Option<Action<'a>>
     })
 }
 
-/// The record at a path, if there is one; `None` if there is a limit alone.
-fn record_with(path: Option<&str>, limit: Option<u64>) -> Option<Option<Record<'_>>>
+/// The record at a path, if there is one; `None` if there is only what would be said of it.
+fn record_with(path: Option<&str>, limit: Option<u64>, next: bool) -> Option<Option<Record<'_>>>
     ensures { option_map (option_map record_of) result
-        ≡ record_with (option_map (λ path. path.now) path.entry) limit }
+        ≡ record_with (option_map (λ path. path.now) path.entry) limit next }
 {
-    match (path, limit) {
-        (Some(path), limit) => Some(Some(Record { path, limit })),
-        (None, None) => Some(None),
-        (None, Some(_)) => None,
+    match (path, limit, next) {
+        (Some(path), limit, next) => Some(Some(Record { path, limit, next })),
+        (None, None, false) => Some(None),
+        (None, None, true) => None,
+        (None, Some(_), _) => None,
     }
 }
 

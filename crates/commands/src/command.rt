@@ -18,8 +18,9 @@ use cli::{
 use replay::{Shown, run_replay};
 use request_text::Meter;
 use serving::{
-    ControlFault, ErrorOutput, NumberKeeper, NumbersFault, RECORD_LIMIT, RecordFault, RunStatus,
-    Term, close_control, close_record, open_control, open_record, serve_file,
+    ControlFault, ErrorOutput, NumberKeeper, NumbersFault, RECORD_LIMIT, RecordFault, Recorder,
+    RunStatus, Term, close_control, close_record, open_control, open_next_record, open_record,
+    serve_file,
 };
 use std::convert::AsStr;
 use std::fs::File;
@@ -311,12 +312,26 @@ fn set_noted<R: AllocGlobal + Files<File = File> + Net + Threads + time::Clock>(
     run_status: &mut RunStatus,
 ) -> Result<(), RecordFault> {
     run_status.log_time.set(paths.log_time);
-    if let Some(Record { path, limit }) = paths.record {
-        let limit = limit.unwrap_or(RECORD_LIMIT);
-        let (digest, first) = (file.digest.as_slice(), file.first.as_slice());
-        run_status.set_recorder(open_record(rt, path, limit, digest, first)?);
+    if let Some(record) = paths.record {
+        run_status.set_recorder(open_recorder(rt, file, record)?);
     }
     Ok(())
+}
+
+/// The record that the words ask for, of a unit with this file's settings.
+fn open_recorder<R: AllocGlobal + Files<File = File> + Net + Threads + time::Clock>(
+    rt: &R,
+    file: &ServedFile,
+    record: Record<'_>,
+) -> Result<Recorder, RecordFault> {
+    let Record { path, limit, next } = record;
+    let limit = limit.unwrap_or(RECORD_LIMIT);
+    let (digest, first) = (file.digest.as_slice(), file.first.as_slice());
+    if next {
+        open_next_record(rt, path, limit, digest, first)
+    } else {
+        open_record(rt, path, limit, digest, first)
+    }
 }
 
 /// The numbers of the run's legs are noted, if anybody does that.

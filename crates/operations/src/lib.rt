@@ -22,7 +22,7 @@ pub use control_socket::{close_control, open_control};
 pub use leg_numbers::NumbersFault;
 pub use lines::{ErrorOutput, Lines, TimedLines};
 pub use number_keeper::{NumberKeeper, open_numbers};
-pub use record_file::{close_record, open_record};
+pub use record_file::{close_record, open_next_record, open_record};
 pub use recording::{
     ControlFault, Origin, RECORD_LIMIT, RecordFault, Recorder, Taken, WriterFault,
 };

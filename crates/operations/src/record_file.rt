@@ -2,10 +2,14 @@
 
 ghost use Rattle.std.specs.Prelude.{◌≡◌, true, false, IfOk};
 ghost use Rattle.std.specs.String.{string_bytes};
+ghost use Rattle.recording.specs.Tapes.{IsPut, new_tape};
 ghost use Rattle.operations.specs.Records.{BeginsRecord, IsHead};
 
 use crate::run_status::RunStatus;
-use recording::{Header, RecordFault, RecordTarget, Recorder, Written, header_text, start_writer};
+use recording::{
+    Header, RecordFault, RecordTarget, Recorder, Written, header_text, make_next, record_path,
+    start_writer,
+};
 use std::alloc::Global;
 use std::fs::{File, OpenOptions};
 use std::io::ErrorKind;
@@ -38,10 +42,54 @@ pub fn open_record<R: AllocGlobal + Files<File = File> + Net + Threads + time::C
 {
     let head = head_of(rt, settings, first)?;
     let written = new_count(rt.alloc())?;
+    let file = create(rt, path)?;
+    record_in(rt, file, limit, head, written)
+}
+
+/// The same; but if a file is at the path, the next one that isn't there is made, of which the number stands behind the path
+/// (`record_path`).
+pub fn open_next_record<R: AllocGlobal + Files<File = File> + Net + Threads + time::Clock>(
+    rt: &R,
+    path: &str,
+    limit: u64,
+    settings: &[u8],
+    first: &[u16],
+) -> Result<Recorder, RecordFault>
+    ensures begun { IfOk result (λ r. (r.has_begun ≡ true) × (r.is_open ≡ true)) }
+    ensures head { IfOk result (λ r. BeginsRecord limit settings.now first.now r.tape) }
+{
+    let head = head_of(rt, settings, first)?;
+    let written = new_count(rt.alloc())?;
+    let file = make_next(|number| create_numbered(rt, path, number))?;
+    record_in(rt, file, limit, head, written)
+}
+
+/// A new file of the record at the path, the one of this number.
+fn create_numbered<R: AllocGlobal + Files<File = File>>(
+    rt: &R,
+    path: &str,
+    number: u32,
+) -> Result<File, RecordFault> {
+    match record_path(rt.alloc(), path, number) {
+        Ok(numbered) => create(rt, numbered.as_str()),
+        Err(_) => Err(RecordFault::NoMemory),
+    }
+}
+
+/// Records in this file what a unit takes in, at most so many bytes, after this head; what stands there counts so.
+fn record_in<R: AllocGlobal + Net + Threads>(
+    rt: &R,
+    file: File,
+    limit: u64,
+    head: String,
+    written: Written,
+) -> Result<Recorder, RecordFault>
+    ensures begun { IfOk result (λ r. (r.has_begun ≡ true) × (r.is_open ≡ true)) }
+    ensures tape { IfOk result (λ r. IsPut (new_tape limit) (string_bytes head) r.tape) }
+{
     let Ok(count) = written.shared() else {
         return Err(RecordFault::NoMemory);
     };
-    let file = create(rt, path)?;
     let (outlet, thread) = start_writer(rt, BLOCKS, RecordTarget::File(file, count))?;
     let mut recorder = Recorder::new(rt.alloc(), head, written, outlet, thread);
     recorder.begin(limit);

@@ -1,4 +1,5 @@
 pub mod Faults
+pub mod NextRecord
 pub mod Lines
 pub mod Taken
 pub mod Tapes

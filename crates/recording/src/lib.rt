@@ -2,14 +2,15 @@
 //!
 //! Read `taken` first, what a unit takes in, and `line`, the lines of each event. Then `header`, the comment at the head of a record, and
 //! `tape`, what is written of a record and when it ends. All of that is a value: no file, no clock. The `recorder` has it while a unit runs, and
-//! hands it on to the `writer_thread`. That is a thread that writes what nobody waits for, to a `record_target`: a file or a peer. `faults` says why there is
-//! no record, or nobody who wants one.
+//! hands it on to the `writer_thread`. That is a thread that writes what nobody waits for, to a `record_target`: a file or a peer. `next_record` says which
+//! file that is where earlier ones stand, `faults` why there is no record, or nobody who wants one.
 #![tactic(auto)]
 
 mod digits;
 mod faults;
 mod header;
 mod line;
+mod next_record;
 mod record_target;
 mod recorder;
 mod taken;
@@ -19,6 +20,7 @@ mod writer_thread;
 pub use faults::{ControlFault, RecordFault, WriterFault};
 pub use header::{Header, header_text};
 pub use line::begun_line;
+pub use next_record::{MAX_RECORD, make_next, record_path};
 pub use record_target::{RecordTarget, Written};
 pub use recorder::{RECORD_LIMIT, Recorder, Switched};
 pub use taken::{Origin, Taken};

@@ -17,9 +17,11 @@ returns-clause-app c =
     let app-4 : App = with_rule app-3 (word_rule (codes "record")) in
     let made-5 = c.asking-serve-5.ensures.shape app-4 (moment_rule (codes "record-limit") 1) made-4 c.moment.ensures.rule c.moment.ensures.local in
     let app-5 : App = with_rule app-4 (moment_rule (codes "record-limit") 1) in
-    let made-6 = c.asking-serve-6.ensures.shape app-5 (word_rule (codes "numbers")) made-5 c.optional_word-3.ensures.rule c.optional_word-3.ensures.local in
-    let app-6 : App = with_rule app-5 (word_rule (codes "numbers")) in
-    c.asking.ensures.shape app-6 (flag_rule (codes "log-time")) made-6 c.flag.ensures.rule c.flag.ensures.local
+    let made-6 = c.asking-serve-6.ensures.shape app-5 (flag_rule (codes "record-next")) made-5 c.flag.ensures.rule c.flag.ensures.local in
+    let app-6 : App = with_rule app-5 (flag_rule (codes "record-next")) in
+    let made-7 = c.asking-serve-7.ensures.shape app-6 (word_rule (codes "numbers")) made-6 c.optional_word-3.ensures.rule c.optional_word-3.ensures.local in
+    let app-7 : App = with_rule app-6 (word_rule (codes "numbers")) in
+    c.asking.ensures.shape app-7 (flag_rule (codes "log-time")) made-7 c.flag-2.ensures.rule c.flag-2.ensures.local
 
 pub returns-clause-local : goal.returns-clause-local
 returns-clause-local c =
@@ -29,5 +31,6 @@ returns-clause-local c =
     let local-3 = c.asking-serve-3.ensures.local local-2 c.optional_word.ensures.local in
     let local-4 = c.asking-serve-4.ensures.local local-3 c.optional_word-2.ensures.local in
     let local-5 = c.asking-serve-5.ensures.local local-4 c.moment.ensures.local in
-    let local-6 = c.asking-serve-6.ensures.local local-5 c.optional_word-3.ensures.local in
-    c.asking.ensures.local local-6 c.flag.ensures.local
+    let local-6 = c.asking-serve-6.ensures.local local-5 c.flag.ensures.local in
+    let local-7 = c.asking-serve-7.ensures.local local-6 c.optional_word-3.ensures.local in
+    c.asking.ensures.local local-7 c.flag-2.ensures.local
