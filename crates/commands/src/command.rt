@@ -313,7 +313,7 @@ fn set_noted<R: AllocGlobal + Files<File = File> + Net + Threads + time::Clock>(
 ) -> Result<(), RecordFault> {
     run_status.log_time.set(paths.log_time);
     if let Some(record) = paths.record {
-        run_status.set_recorder(open_recorder(rt, file, record)?);
+        run_status.record_in_file(open_recorder(rt, file, record)?);
     }
     Ok(())
 }

@@ -1,11 +1,14 @@
 -- What a request leads to.
-use Rattle.std.specs.Prelude.{ℕ, Bool, nat_lt, Option, None, Some, if◌then◌else◌}
+use Rattle.std.specs.Prelude.{ℕ, nat_lt, Option, None, Some, if◌then◌else◌}
 use Rattle.ports.specs.declared.feed.Received.TheVariants as received
 use Rattle.ports.specs.declared.watch.Look.TheVariants.{Presence, Desk}
 use Rattle.control_protocol.specs.declared.answer.Refused.TheVariants.{Leg, Publisher, Recorded, Unrecorded}
 use Rattle.control_protocol.specs.declared.request.Request.{Request}
 use Rattle.control_protocol.specs.declared.request.Request.TheVariants.{Select, Present, Legs as AskLegs, Counts as AskCounts, Metrics as AskMetrics, Reports as AskReports, Refusals as AskRefusals, Strangers as AskStrangers, Record as AskRecord, EndRecord as AskEndRecord, Why as AskWhy, Show, Stop}
+use Rattle.control_protocol.specs.Records.{record_meant}
+use Rattle.control_protocol.specs.declared.records.RecordKind.{RecordKind}
 use Rattle.control_protocol.specs.declared.request_action.RequestAction.{RequestAction}
+use Rattle.control_protocol.specs.declared.request_action.UnitState.{UnitState}
 use Rattle.control_protocol.specs.declared.request_action.RequestAction.TheVariants.{Refuse, Do, Counts, Look, Legs, Metrics, Reports, Refusals, Strangers, Why, Record, EndRecord}
 
 -- of each leg, or of one; one that isn't there is refused
@@ -13,22 +16,25 @@ abbrev pub why_action : Option ℕ → ℕ → RequestAction
 why_action None legs = Why None
 why_action (Some leg) legs = if nat_lt leg legs then Why (Some leg) else Refuse Leg
 
--- of a room with so many legs and endpoints, which is being recorded or not: a selection or a stop comes to the unit as it was asked for; a
--- leg or an endpoint that isn't there is refused; there is one record at a time
-abbrev pub action_for : Request → ℕ → ℕ → Bool → RequestAction
-action_for (Select leg on) legs endpoints is_recorded =
-    if nat_lt leg legs then Do (received.Select leg on) else Refuse Leg
-action_for Present legs endpoints is_recorded = Look Presence
-action_for AskLegs legs endpoints is_recorded = Legs
-action_for AskCounts legs endpoints is_recorded = Counts
-action_for AskMetrics legs endpoints is_recorded = Metrics
-action_for AskReports legs endpoints is_recorded = Reports
-action_for AskRefusals legs endpoints is_recorded = Refusals
-action_for AskStrangers legs endpoints is_recorded = Strangers
-action_for AskRecord legs endpoints is_recorded = if is_recorded then Refuse Recorded else Record
-action_for AskEndRecord legs endpoints is_recorded =
-    if is_recorded then EndRecord else Refuse Unrecorded
-action_for (AskWhy leg) legs endpoints is_recorded = why_action leg legs
-action_for (Show publisher) legs endpoints is_recorded =
-    if nat_lt publisher endpoints then Look (Desk publisher) else Refuse Publisher
-action_for Stop legs endpoints is_recorded = Do received.Stop
+-- the record that is meant ends, if one is
+abbrev pub end_action : Option RecordKind → RequestAction
+end_action None = Refuse Unrecorded
+end_action (Some kind) = EndRecord kind
+
+-- A selection or a stop comes to the unit as it was asked for; a leg or an endpoint that isn't there is refused. There is one record for peers at
+-- a time, beside that of the file.
+abbrev pub action_for : Request → UnitState → RequestAction
+action_for (Select leg on) unit = if nat_lt leg unit.legs then Do (received.Select leg on) else Refuse Leg
+action_for Present unit = Look Presence
+action_for AskLegs unit = Legs
+action_for AskCounts unit = Counts
+action_for AskMetrics unit = Metrics
+action_for AskReports unit = Reports
+action_for AskRefusals unit = Refusals
+action_for AskStrangers unit = Strangers
+action_for AskRecord unit = if unit.records.peer then Refuse Recorded else Record
+action_for (AskEndRecord named) unit = end_action (record_meant unit.records named)
+action_for (AskWhy leg) unit = why_action leg unit.legs
+action_for (Show publisher) unit =
+    if nat_lt publisher unit.endpoints then Look (Desk publisher) else Refuse Publisher
+action_for Stop unit = Do received.Stop

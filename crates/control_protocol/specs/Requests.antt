@@ -2,6 +2,8 @@
 use Rattle.std.specs.Prelude.{ℕ, ◌^◌, Bool, true, false, List, [], ◌∷◌, Option, None, Some, option_map, option_and_then, codes, if◌then◌else◌}
 use Rattle.std.specs.Str.{bytes_eq}
 use Rattle.request_text.specs.Words.{number_under, words_in}
+use Rattle.control_protocol.specs.declared.records.RecordKind.{RecordKind}
+use Rattle.control_protocol.specs.declared.records.RecordKind.TheVariants.{File, Peer}
 use Rattle.control_protocol.specs.declared.request.Request.{Request}
 use Rattle.control_protocol.specs.declared.request.Request.TheVariants.{Select, Present, Legs, Counts, Metrics, Reports, Refusals, Strangers, Record, EndRecord, Why, Show, Stop}
 
@@ -28,10 +30,17 @@ abbrev pub show_asked : List (List ℕ) → Option Request
 show_asked (publisher ∷ []) = option_map Show (number_under (2 ^ 16) publisher)
 show_asked words = None
 
--- nothing, or the end
+-- which record
+abbrev pub record_named : List ℕ → Option RecordKind
+record_named word = if bytes_eq word (codes "file") then Some File else if bytes_eq word (codes "peer")
+    then Some Peer else None
+
+-- nothing; or the end of a record, or of this one
 abbrev pub record_asked : List (List ℕ) → Option Request
 record_asked [] = Some Record
-record_asked (off ∷ []) = if bytes_eq off (codes "off") then Some EndRecord else None
+record_asked (off ∷ []) = if bytes_eq off (codes "off") then Some (EndRecord None) else None
+record_asked (off ∷ (which ∷ [])) = if bytes_eq off (codes "off")
+    then option_map (λ k. EndRecord (Some k)) (record_named which) else None
 record_asked words = None
 
 -- nothing

@@ -2,7 +2,7 @@
 //!
 //! There is neither a socket nor a thread here. Read `request` first, what can be asked for; then `answer`, the texts of answers, and `request_action`,
 //! what a request leads to. `inbox` is how lines come out of the bytes of a peer, `peers` who is looked at next, `places` who makes room for
-//! another. `shortage` is when the control says that nobody can be taken in. `ask` is the other end, which takes an answer apart.
+//! another. `records` are which records somebody may mean, `shortage` is when the control says that nobody can be taken in. `ask` is the other end, which takes an answer apart.
 #![tactic(auto)]
 
 mod answer;
@@ -10,6 +10,7 @@ mod ask;
 mod inbox;
 mod peers;
 mod places;
+mod records;
 mod request;
 mod request_action;
 mod screened;
@@ -23,7 +24,8 @@ pub use ask::{Answered, read_answer};
 pub use inbox::{Inbox, MAX_INBOX};
 pub use peers::Peers;
 pub use places::{MAX_PEERS, Place, ROOM_AFTER_MS, TAKEN_IN, place_among};
+pub use records::{RecordKind, Records};
 pub use request::{Request, read_request};
-pub use request_action::{RequestAction, action_for};
+pub use request_action::{RequestAction, UnitState, action_for};
 pub use screened::{Screened, screened_text};
 pub use shortage::{SHORTAGE_EACH_MS, says_shortage, shortage_text};

@@ -1,8 +1,9 @@
 //! What a peer asks for.
 
 ghost use Rattle.std.specs.Prelude.{◌≡◌, IfOk, map};
-ghost use Rattle.control_protocol.specs.Requests.{alone_words, record_asked, request_in, request_words, select_asked, show_asked, switched, why_asked};
+ghost use Rattle.control_protocol.specs.Requests.{alone_words, record_asked, record_named, request_in, request_words, select_asked, show_asked, switched, why_asked};
 
+use crate::records::RecordKind;
 use request_text::{is_word, number_u16, words_of};
 use std::alloc::{AllocError, Global};
 
@@ -27,8 +28,8 @@ pub enum Request {
     Strangers,
     /// `record`: what the unit takes in from now on is written to who asks.
     Record,
-    /// `record off`: that ends, and so does a record in a file.
-    EndRecord,
+    /// `record off file`, `record off peer`: this record ends; `record off`: one does.
+    EndRecord(Option<RecordKind>),
     /// `why LEG`: why the leg's subscriber sees nothing, or what it is sent; `why`: the same of each leg.
     Why(Option<u16>),
     /// `show P`: what is announced to this publisher, with its certificate.
@@ -94,13 +95,27 @@ fn selected(words: &[&[u8]]) -> Option<Request>
     }
 }
 
-/// Nothing, or `off`.
+/// Nothing, `off`, or `off` and which record.
 fn recorded(words: &[&[u8]]) -> Option<Request>
     ensures { result ≡ record_asked (map (λ x. x.now) words.now) }
 {
     match words {
         [] => Some(Request::Record),
-        [off] if is_word(off, b"off") => Some(Request::EndRecord),
+        [off] if is_word(off, b"off") => Some(Request::EndRecord(None)),
+        [off, which] if is_word(off, b"off") => {
+            Some(Request::EndRecord(Some(record_named(which)?)))
+        }
+        _ => None,
+    }
+}
+
+/// `file` or `peer`.
+fn record_named(word: &[u8]) -> Option<RecordKind>
+    ensures { result ≡ record_named word.now }
+{
+    match word {
+        b"file" => Some(RecordKind::File),
+        b"peer" => Some(RecordKind::Peer),
         _ => None,
     }
 }

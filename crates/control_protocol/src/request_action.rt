@@ -1,9 +1,10 @@
 //! What a request leads to.
 
 ghost use Rattle.std.specs.Prelude.{◌≡◌, Some};
-ghost use Rattle.control_protocol.specs.RequestActions.{action_for, why_action};
+ghost use Rattle.control_protocol.specs.RequestActions.{action_for, end_action, why_action};
 
 use crate::answer::Refused;
+use crate::records::{RecordKind, Records};
 use crate::request::Request;
 use ports::{Look, Received};
 
@@ -32,17 +33,26 @@ pub enum RequestAction {
     Why(Option<u16>),
     /// A record begins, for who asked.
     Record,
-    /// The record ends.
-    EndRecord,
+    /// This record ends.
+    EndRecord(RecordKind),
 }
 
-/// What the request leads to in a room with so many legs and endpoints, which is being recorded or not.
-pub fn action_for(request: Request, legs: u16, endpoints: u16, is_recorded: bool) -> RequestAction
-    ensures { result ≡ action_for request legs endpoints is_recorded }
+/// What requests go by in a unit.
+#[derive(Clone, Copy, Debug, PartialEq, Eq)]
+pub struct UnitState {
+    /// How many legs and endpoints there are.
+    pub legs: u16,
+    pub endpoints: u16,
+    pub records: Records,
+}
+
+/// What the request leads to in a unit of which this is so.
+pub fn action_for(request: Request, unit: UnitState) -> RequestAction
+    ensures { result ≡ action_for request unit }
 {
     match request {
         Request::Select { leg, on } => {
-            if leg < legs {
+            if leg < unit.legs {
                 RequestAction::Do(Received::Select { leg, on })
             } else {
                 RequestAction::Refuse(Refused::Leg)
@@ -56,28 +66,32 @@ pub fn action_for(request: Request, legs: u16, endpoints: u16, is_recorded: bool
         Request::Refusals => RequestAction::Refusals,
         Request::Strangers => RequestAction::Strangers,
         Request::Record => {
-            if is_recorded {
+            if unit.records.peer {
                 RequestAction::Refuse(Refused::Recorded)
             } else {
                 RequestAction::Record
             }
         }
-        Request::EndRecord => {
-            if is_recorded {
-                RequestAction::EndRecord
-            } else {
-                RequestAction::Refuse(Refused::Unrecorded)
-            }
-        }
-        Request::Why(leg) => why_action(leg, legs),
+        Request::EndRecord(named) => end_action(unit.records.meant(named)),
+        Request::Why(leg) => why_action(leg, unit.legs),
         Request::Show(publisher) => {
-            if publisher < endpoints {
+            if publisher < unit.endpoints {
                 RequestAction::Look(Look::Desk(publisher))
             } else {
                 RequestAction::Refuse(Refused::Publisher)
             }
         }
         Request::Stop => RequestAction::Do(Received::Stop),
+    }
+}
+
+/// What it leads to that a record is to end: this one, if there is one.
+fn end_action(meant: Option<RecordKind>) -> RequestAction
+    ensures { result ≡ end_action meant }
+{
+    match meant {
+        Some(kind) => RequestAction::EndRecord(kind),
+        None => RequestAction::Refuse(Refused::Unrecorded),
     }
 }
 

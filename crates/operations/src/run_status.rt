@@ -5,7 +5,7 @@ ghost use Rattle.ports.specs.declared.feed.Received.TheVariants.{Nothing};
 
 use crate::number_keeper::NumberKeeper;
 use crate::steering::{PeerRequest, Steering};
-use control_protocol::{Screened, Unheard};
+use control_protocol::{RecordKind, Records, Screened, Unheard};
 use ports::{Look, Received, Status};
 use recording::{End, Recorder};
 use stats::Traffic;
@@ -45,8 +45,10 @@ pub struct RunStatus {
     unread: RefCell<Option<Arc<AtomicU64, Global>>>,
     /// Who steers the run, if anybody may.
     steering: Option<RefCell<Steering>>,
-    /// Who records the run, if anybody does.
+    /// Who records the run for peers, if anybody does.
     recorder: Option<RefCell<Recorder>>,
+    /// Who records it in a file from its start on, if anybody does.
+    file_recorder: Option<RefCell<Recorder>>,
     /// Who notes the numbers of its legs, if anybody does.
     keeper: Option<RefCell<NumberKeeper>>,
     /// The moment from which on they are noted next, in milliseconds.
@@ -59,7 +61,7 @@ impl RunStatus {
     /// Those of a run that begins.
     pub fn new() -> RunStatus
         ensures steering { result.steering ≡ None }
-        ensures recorder { result.recorder ≡ None }
+        ensures recorder { (result.recorder ≡ None) × (result.file_recorder ≡ None) }
         ensures keeper { result.keeper ≡ None }
     {
         RunStatus {
@@ -75,6 +77,7 @@ impl RunStatus {
             unread: RefCell::new(None),
             steering: None,
             recorder: None,
+            file_recorder: None,
             keeper: None,
             numbers_due_ms: Cell::new(u64::MAX),
         }
@@ -91,12 +94,21 @@ impl RunStatus {
         run_status
     }
 
-    /// The run is recorded from now on.
+    /// The run is recorded by this from now on, once a peer wants it.
     pub fn set_recorder(&mut self, recorder: Recorder)
         ensures recorder { IsSome self.new.recorder }
         ensures steering { self.new.steering ≡ self.old.steering }
     {
         self.recorder = Some(RefCell::new(recorder));
+    }
+
+    /// The run is recorded in a file from now on, whatever peers want beside.
+    pub fn record_in_file(&mut self, recorder: Recorder)
+        ensures recorder { IsSome self.new.file_recorder }
+        ensures others { (self.new.recorder ≡ self.old.recorder)
+            × (self.new.steering ≡ self.old.steering) }
+    {
+        self.file_recorder = Some(RefCell::new(recorder));
     }
 
     /// The numbers of the run's legs are noted from now on.
@@ -124,7 +136,7 @@ impl RunStatus {
         }
     }
 
-    /// Who records the run, if anybody may.
+    /// Who records the run for peers, if anybody may.
     pub fn recorder(&self) -> Option<RefMut<'_, Recorder>>
         ensures { self.now.recorder ≡ None → IsNone result }
     {
@@ -134,19 +146,46 @@ impl RunStatus {
         recorder.try_borrow_mut().ok()
     }
 
-    /// How many bytes of the record stand where it is written, and why it ended, if it did; `None` if nobody wanted one.
-    pub(crate) fn record_state(&self) -> Option<(u64, Option<End>)> {
-        let recorder = self.recorder()?;
+    /// Who records the run in a file, if anybody does.
+    pub fn file_recorder(&self) -> Option<RefMut<'_, Recorder>>
+        ensures { self.now.file_recorder ≡ None → IsNone result }
+    {
+        let Some(recorder) = &self.file_recorder else {
+            return None;
+        };
+        recorder.try_borrow_mut().ok()
+    }
+
+    /// How many bytes of this record stand where it is written, and why it ended, if it did; `None` if nobody wanted one.
+    pub(crate) fn record_state(&self, kind: RecordKind) -> Option<(u64, Option<End>)> {
+        let recorder = self.recorder_of(kind)?;
         recorder.state()
     }
 
-    /// The run has ended, and so have its record and the notes of its numbers.
+    /// Whether the run is recorded in a file from its start on, be it that this has ended.
+    pub(crate) fn has_file(&self) -> bool {
+        self.file_recorder.is_some()
+    }
+
+    /// Who makes this record of the run, if anybody may.
+    fn recorder_of(&self, kind: RecordKind) -> Option<RefMut<'_, Recorder>> {
+        match kind {
+            RecordKind::File => self.file_recorder(),
+            RecordKind::Peer => self.recorder(),
+        }
+    }
+
+    /// The run has ended, and so have its records and the notes of its numbers.
     pub(crate) fn finish<R: Threads>(self, rt: &R) {
         let RunStatus {
             recorder,
+            file_recorder,
             keeper,
             ..
         } = self;
+        if let Some(recorder) = file_recorder {
+            recorder.into_inner().finish(rt);
+        }
         if let Some(recorder) = recorder {
             recorder.into_inner().finish(rt);
         }
@@ -155,11 +194,21 @@ impl RunStatus {
         }
     }
 
-    /// Whether the run is being recorded.
+    /// Whether the run is being recorded for a peer.
     pub fn is_recorded(&self) -> bool
         ensures { self.now.recorder ≡ None → result ≡ false }
     {
         match self.recorder() {
+            Some(recorder) => recorder.is_on(),
+            None => false,
+        }
+    }
+
+    /// Whether the run is being recorded in a file.
+    pub fn is_recorded_in_file(&self) -> bool
+        ensures { self.now.file_recorder ≡ None → result ≡ false }
+    {
+        match self.file_recorder() {
             Some(recorder) => recorder.is_on(),
             None => false,
         }
@@ -190,23 +239,27 @@ impl RunStatus {
     }
 
     /// What peers want of the unit by now: that a leg is switched, or that it stops; nothing, if nobody may steer it. What they want of its
-    /// record is done here, and it is noted if the control has no descriptor left for them.
+    /// records is done here, and it is noted if the control has no descriptor left for them.
     pub fn wished(&self) -> Received
         ensures { self.now.steering ≡ None → result ≡ Nothing }
     {
-        let (moment, is_recorded) = (self.moment_ms.get(), self.is_recorded());
+        let moment = self.moment_ms.get();
+        let records = Records {
+            file: self.is_recorded_in_file(),
+            peer: self.is_recorded(),
+        };
         let Some(mut steering) = self.steering() else {
             return Received::Nothing;
         };
-        match steering.receive(moment, is_recorded) {
+        match steering.receive(moment, records) {
             PeerRequest::Unit(received) => return received,
             PeerRequest::Record(peer) => {
                 if let Some(mut recorder) = self.recorder() {
                     recorder.begin_for(peer, moment, steering.switched().as_slice());
                 }
             }
-            PeerRequest::EndRecord => {
-                if let Some(mut recorder) = self.recorder() {
+            PeerRequest::EndRecord(kind) => {
+                if let Some(mut recorder) = self.recorder_of(kind) {
                     recorder.end();
                 }
             }

@@ -3,7 +3,7 @@
 ghost use Rattle.std.specs.Prelude.{◌≡◌};
 
 use crate::run_status::RunStatus;
-use control_protocol::{Screened, shortage_text};
+use control_protocol::{RecordKind, Screened, shortage_text};
 use ports::{Status, Watch};
 use recording::end_name;
 use std::alloc::{AllocError, Global};
@@ -141,17 +141,27 @@ impl<'a, E: Write> StatusLines<'a, E> {
         }
     }
 
-    /// How many bytes of the record stand where it is written, and why it ended, if it did; nothing of a run that isn't recorded.
+    /// What the record comes to that the unit has in a file, and then what a peer's does; without a file, a peer's alone.
     fn recorded_part(&self) -> Result<String, AllocError> {
-        let Some((written, end)) = self.run_status.record_state() else {
+        if !self.run_status.has_file() {
+            return self.record_part("recorded", RecordKind::Peer);
+        }
+        let mut part = self.record_part("recorded", RecordKind::File)?;
+        part.push_str(self.record_part("peer", RecordKind::Peer)?.as_str())?;
+        Ok(part)
+    }
+
+    /// How many bytes of this record stand where it is written, after this word, and why it ended, if it did; nothing if nobody wanted one.
+    fn record_part(&self, word: &str, kind: RecordKind) -> Result<String, AllocError> {
+        let Some((written, end)) = self.run_status.record_state(kind) else {
             return Ok(String::new(self.alloc));
         };
         match end {
             Some(end) => {
                 let why = end_name(end);
-                format!(in self.alloc; " recorded {written} ended {why}")
+                format!(in self.alloc; " {word} {written} ended {why}")
             }
-            None => format!(in self.alloc; " recorded {written}"),
+            None => format!(in self.alloc; " {word} {written}"),
         }
     }
 }

@@ -5,9 +5,9 @@ ghost use Rattle.std.specs.Prelude.{◌≡◌, None, IfOk, length, map, replicat
 use crate::diagnosing::Diagnosing;
 use addresses::Strangers;
 use control_protocol::{
-    EndpointLine, Peers, Refused, RequestAction, SHORTAGE_EACH_MS, Screened, TAKEN_IN, Unheard,
-    action_for, counts_text, done_text, present_line, refused_text, says_shortage, screened_text,
-    stranger_line,
+    EndpointLine, Peers, RecordKind, Records, Refused, RequestAction, SHORTAGE_EACH_MS, Screened,
+    TAKEN_IN, Unheard, UnitState, action_for, counts_text, done_text, present_line, refused_text,
+    says_shortage, screened_text, stranger_line,
 };
 use desk::Desk;
 use diagnosis::reason_lines;
@@ -69,8 +69,8 @@ pub(crate) enum PeerRequest {
     Unit(Received),
     /// From now on what the unit takes in is to be written to this peer.
     Record(UnixStream),
-    /// The record is to end.
-    EndRecord,
+    /// This record is to end.
+    EndRecord(RecordKind),
     /// It is to be said that no descriptor is left for who connects.
     SayShortage,
 }
@@ -134,8 +134,8 @@ impl Steering {
         })
     }
 
-    /// What peers want by this moment of a unit that is being recorded or not. No peer is waited for.
-    pub(crate) fn receive(&mut self, moment: u64, is_recorded: bool) -> PeerRequest {
+    /// What peers want by this moment of a unit of which these records are being made. No peer is waited for.
+    pub(crate) fn receive(&mut self, moment: u64, records: Records) -> PeerRequest {
         if moment < self.due_ms || self.asked != OpenQuestion::Nothing {
             return PeerRequest::Unit(Received::Nothing);
         }
@@ -146,9 +146,12 @@ impl Steering {
         let Some(request) = self.peers.next_request(moment) else {
             return PeerRequest::Unit(Received::Nothing);
         };
-        let endpoints = u16::try_from(self.endpoints.len()).unwrap_or(u16::MAX);
-        let legs = u16::try_from(self.legs.len()).unwrap_or(u16::MAX);
-        match action_for(request, legs, endpoints, is_recorded) {
+        let unit = UnitState {
+            legs: u16::try_from(self.legs.len()).unwrap_or(u16::MAX),
+            endpoints: u16::try_from(self.endpoints.len()).unwrap_or(u16::MAX),
+            records,
+        };
+        match action_for(request, unit) {
             RequestAction::Refuse(why) => self.refuse(why),
             RequestAction::Do(received) => {
                 self.note(received);
@@ -168,9 +171,9 @@ impl Steering {
                     return PeerRequest::Record(peer);
                 }
             }
-            RequestAction::EndRecord => {
+            RequestAction::EndRecord(kind) => {
                 self.peers.answer(b"ok\n");
-                return PeerRequest::EndRecord;
+                return PeerRequest::EndRecord(kind);
             }
         }
         PeerRequest::Unit(Received::Nothing)

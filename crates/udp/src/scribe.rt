@@ -17,7 +17,7 @@ use std::alloc::{AllocError, Global};
 use std::marker::Model;
 use tmmbr_tuple::Ssrc;
 
-/// Tells who records a run what is taken in. What the rules changed, or the unit says in a client's name, is spelled for that.
+/// Tells those who record a run what is taken in. What the rules changed, or the unit says in a client's name, is spelled for that.
 #[derive(Drop)]
 pub(crate) struct Scribe {
     /// The datagram that was spelled last.
@@ -55,6 +55,9 @@ impl Scribe {
 
     /// This is let in; what is taken in is kept there.
     pub(crate) fn note(&mut self, run_status: &RunStatus, came: Came, kept: &Kept) {
+        if let Some(mut recorder) = run_status.file_recorder() {
+            self.note_in(&mut recorder, came, kept);
+        }
         if let Some(mut recorder) = run_status.recorder() {
             self.note_in(&mut recorder, came, kept);
         }
@@ -62,6 +65,9 @@ impl Scribe {
 
     /// A tick was made at this moment.
     pub(crate) fn ticked(&self, run_status: &RunStatus, moment: u64) {
+        if let Some(mut recorder) = run_status.file_recorder() {
+            recorder.ticked(moment);
+        }
         if let Some(mut recorder) = run_status.recorder() {
             recorder.ticked(moment);
         }
