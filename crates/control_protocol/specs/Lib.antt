@@ -3,6 +3,7 @@ pub mod Requests
 pub mod Answers
 pub mod Inboxes
 pub mod Places
+pub mod Patience
 pub mod RequestActions
 pub mod Asking
 pub mod Screened

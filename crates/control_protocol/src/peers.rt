@@ -1,173 +1,18 @@
 //! Who asks: a few peers, each with what came from it and isn't read yet.
 
-ghost use Rattle.std.specs.Prelude.{◌≡◌, ◌≤◌, ◌<◌, ◌+◌, ◌⊎◌, IfOk, length, map, slice_set, vec_len};
-ghost use Rattle.control_protocol.specs.Places.{IsPlaceAmong, silences_at};
-ghost use Rattle.control_protocol.specs.declared.places.TheConstants.{MAX_PEERS};
+ghost use Rattle.std.specs.Prelude.{◌≡◌, ◌<◌, ◌+◌, IfOk, length, map, slice_set};
+ghost use Rattle.control_protocol.specs.Places.{LetsStay, peer_of, silences_at, staying};
 
 use crate::answer::{Refused, refused_text};
-use crate::inbox::{Inbox, MAX_INBOX};
-use crate::places::{MAX_PEERS, Place, place_among};
-use crate::request::{Request, read_request};
+use crate::peer::{Heard, Peer};
+use crate::places::{MAX_PEERS, MAX_STAYING, Place, place_among};
+use crate::request::Request;
 use std::alloc::{AllocError, Global};
-use std::io::{ErrorKind, Read, Write};
+use std::io::{Read, Write};
 use std::marker::Model;
 
-/// A peer from which no whole line came for so many milliseconds is let go.
-const PATIENCE_MS: u64 = 10_000;
-
-/// A peer: where it is read and answered, what came from it, and what of its answer it didn't take yet.
-#[derive(Drop)]
-struct Peer<S: Drop> {
-    stream: S,
-    inbox: Inbox,
-    /// The moment of its last line, or at which it came.
-    since_ms: u64,
-    unsaid: Vec<u8>,
-    /// How many bytes of that it took since.
-    said: usize,
-}
-
-/// What came of a read.
-#[derive(Clone, Copy)]
-enum Came {
-    Nothing,
-    Bytes,
-    /// Nothing more will come, or there is no memory for it.
-    End,
-}
-
-/// What came of a look at a peer.
-#[derive(Clone, Copy)]
-enum Heard {
-    Nothing,
-    /// It is let go.
-    Gone,
-    Asked(Request),
-}
-
-impl<S: Read + Write + Drop> Peer<S> {
-    /// Reads once, if no line waits, and takes a line. A line that asks for nothing is answered here. Nothing is read before the peer
-    /// took its last answer.
-    fn hear(&mut self, alloc: Global, moment: u64) -> Heard {
-        if !self.goes_on() {
-            return Heard::Gone;
-        }
-        if !self.unsaid.is_empty() {
-            return self.wait(moment);
-        }
-        match self.inbox.next_line() {
-            Ok(Some(line)) => self.read_line(alloc, moment, line.as_slice()),
-            Ok(None) => self.read_more(alloc, moment),
-            Err(_) => Heard::Gone,
-        }
-    }
-
-    /// Reads once, and takes a line if one has ended. Who sends too much without an end, or nothing for long, is let go.
-    fn read_more(&mut self, alloc: Global, moment: u64) -> Heard {
-        match self.read() {
-            Came::Bytes => self.take_line(alloc, moment),
-            Came::Nothing => self.wait(moment),
-            Came::End => Heard::Gone,
-        }
-    }
-
-    /// Reads once, if there is room, and keeps what came.
-    fn read(&mut self) -> Came
-        ensures { self.new.since_ms ≡ self.old.since_ms }
-    {
-        let mut bytes = [0; MAX_INBOX];
-        let room = self.inbox.room().min(MAX_INBOX);
-        if room == 0 {
-            return Came::Bytes;
-        }
-        match self.stream.read(&mut bytes[..room]) {
-            Ok(0) => Came::End,
-            Ok(count) => match self.inbox.take_in(&bytes[..count.min(MAX_INBOX)]) {
-                Ok(()) => Came::Bytes,
-                Err(_) => Came::End,
-            },
-            Err(error) if error.kind() == ErrorKind::WouldBlock => Came::Nothing,
-            Err(error) if error.kind() == ErrorKind::Interrupted => Came::Nothing,
-            Err(_) => Came::End,
-        }
-    }
-
-    /// Whether the peer is there. If no line of it waits it is read for that; a line that waits then was said by this moment.
-    fn is_there(&mut self, moment: u64) -> bool
-        ensures { (self.new.since_ms ≡ self.old.since_ms) ⊎ (self.new.since_ms ≡ moment) }
-    {
-        if !self.unsaid.is_empty() {
-            return true;
-        }
-        if !self.inbox.has_line() && matches!(self.read(), Came::End) {
-            return false;
-        }
-        if self.inbox.has_line() {
-            self.since_ms = moment;
-        }
-        true
-    }
-
-    fn take_line(&mut self, alloc: Global, moment: u64) -> Heard {
-        match self.inbox.next_line() {
-            Ok(Some(line)) => self.read_line(alloc, moment, line.as_slice()),
-            Ok(None) if self.inbox.room() == 0 => {
-                let _ = self.say(refused_text(Refused::Long).as_bytes());
-                Heard::Gone
-            }
-            Ok(None) => self.wait(moment),
-            Err(_) => Heard::Gone,
-        }
-    }
-
-    fn read_line(&mut self, alloc: Global, moment: u64, line: &[u8]) -> Heard {
-        self.since_ms = moment;
-        match read_request(alloc, line) {
-            Ok(Some(request)) => Heard::Asked(request),
-            Ok(None) if self.say(refused_text(Refused::Unknown).as_bytes()) => Heard::Nothing,
-            Ok(None) | Err(_) => Heard::Gone,
-        }
-    }
-
-    fn wait(&self, moment: u64) -> Heard {
-        if moment.saturating_sub(self.since_ms) < PATIENCE_MS {
-            Heard::Nothing
-        } else {
-            Heard::Gone
-        }
-    }
-
-    /// Writes as much of this as the peer takes now, and keeps the rest. Says whether the peer is there.
-    fn say(&mut self, text: &[u8]) -> bool {
-        self.said = 0;
-        self.unsaid.clear();
-        self.unsaid.extend_from_slice(text).is_ok() && self.goes_on()
-    }
-
-    /// Writes as much of what is unsaid as the peer takes now. Says whether the peer is there.
-    fn goes_on(&mut self) -> bool {
-        let Some(rest) = self.unsaid.as_slice().get(self.said..) else {
-            return false;
-        };
-        if rest.is_empty() {
-            return true;
-        }
-        match self.stream.write(rest) {
-            Ok(0) => false,
-            Ok(count) => {
-                self.said = self.said.saturating_add(count);
-                if self.said >= self.unsaid.len() {
-                    self.unsaid.clear();
-                    self.said = 0;
-                }
-                true
-            }
-            Err(error) => matches!(error.kind(), ErrorKind::WouldBlock | ErrorKind::Interrupted),
-        }
-    }
-}
-
-/// The peers, each of which is looked at in turn. Contracts see the moments of their last lines, in the order in which they are looked at.
+/// The peers, each of which is looked at in turn. Contracts see of each when its last line came and whether it stays, in the order in which
+/// they are looked at.
 #[derive(Drop)]
 pub struct Peers<S: Drop> {
     alloc: Global,
@@ -175,19 +20,20 @@ pub struct Peers<S: Drop> {
 }
 
 impl<S: Drop> Model for Peers<S> {
-    ghost use Rattle.std.specs.Prelude.{◌≤◌, ℕ, List, map, vec_len};
+    ghost use Rattle.std.specs.Prelude.{◌≤◌, List, map, vec_len};
+    ghost use Rattle.control_protocol.specs.Places.{PeerState, peer_of};
     ghost use Rattle.control_protocol.specs.declared.places.TheConstants.{MAX_PEERS};
 
-    ghost Value = { List ℕ };
+    ghost Value = { List PeerState };
 
-    ghost view = { λ p. map (λ peer. peer.since_ms) p.peers.items };
+    ghost view = { λ p. map (λ peer. peer_of peer.since_ms peer.stays) p.peers.items };
 
     ghost invariant = { λ p. vec_len p.peers ≤ MAX_PEERS };
 }
 
 impl<S: Read + Write + Drop> Peers<S> {
     ghost use Rattle.std.specs.Prelude.{◌≡◌, ◌≤◌, ◌+◌, [], length, IfOk, MatchOption};
-    ghost use Rattle.control_protocol.specs.Places.{IsPlaceAmong, TakesPlace, silences_at};
+    ghost use Rattle.control_protocol.specs.Places.{IsPlaceAmong, LetsStay, TakesPlace, may_stay, silences_at};
     ghost use Rattle.control_protocol.specs.declared.places.TheConstants.{MAX_PEERS};
 
     /// Nobody.
@@ -216,13 +62,7 @@ impl<S: Read + Write + Drop> Peers<S> {
         ensures one_more { length self.new ≤ length self.old + 1 }
         ensures others { length self.old ≤ length self.new }
     {
-        let mut peer = Peer {
-            stream,
-            inbox: Inbox::new(self.alloc),
-            since_ms: moment,
-            unsaid: Vec::new(self.alloc),
-            said: 0,
-        };
+        let mut peer = Peer::new(self.alloc, stream, moment);
         if !peer.is_there(moment) {
             return;
         }
@@ -297,6 +137,23 @@ impl<S: Read + Write + Drop> Peers<S> {
         }
     }
 
+    /// Whether who asked last may stay: fewer of the others do than may.
+    pub fn may_stay(&self) -> bool
+        ensures { result ≡ may_stay self.now }
+    {
+        let others = self.peers.len().saturating_sub(1);
+        count_staying(&self.peers.as_slice()[..others]) < MAX_STAYING
+    }
+
+    /// Who asked last stays from now on: it isn't let go for what it doesn't say, and makes room for nobody.
+    pub fn let_stay(&mut self)
+        ensures { LetsStay self.old self.new }
+    {
+        if let Some(last) = self.peers.len().checked_sub(1) {
+            let_stay_at(self.peers.as_mut_slice(), last);
+        }
+    }
+
     /// Takes away who asked last: it is no peer any more, and what it said after its request is passed over.
     pub fn take_last(&mut self) -> Option<S>
         ensures { MatchOption result ((self.new ≡ self.old) × (length self.old ≡ 0))
@@ -331,20 +188,41 @@ impl<S: Read + Write + Drop> Peers<S> {
 #[tactic(auto, using(crate::proofs::PlaceLemmas::mapped_set))]
 fn take_place<S: Drop>(peers: &mut [Peer<S>], number: usize, peer: Peer<S>)
     requires { number < length peers.old }
-    ensures { map (λ peer. peer.since_ms) peers.new
-        ≡ slice_set (map (λ peer. peer.since_ms) peers.old) number peer.since_ms }
+    ensures { map (λ peer. peer_of peer.since_ms peer.stays) peers.new ≡ slice_set
+        (map (λ peer. peer_of peer.since_ms peer.stays) peers.old) number
+        (peer_of peer.since_ms peer.stays) }
 {
     peers[number] = peer;
 }
 
+/// The peer of this number, the last one, stays from now on.
+fn let_stay_at<S: Drop>(peers: &mut [Peer<S>], number: usize)
+    requires { number + 1 ≡ length peers.old }
+    ensures { LetsStay (map (λ peer. peer_of peer.since_ms peer.stays) peers.old)
+        (map (λ peer. peer_of peer.since_ms peer.stays) peers.new) }
+{
+    peers[number].stays = true;
+}
+
+/// How many of these stay.
+fn count_staying<S: Drop>(peers: &[Peer<S>]) -> usize
+    ensures { result ≡ staying (map (λ peer. peer_of peer.since_ms peer.stays) peers.now) }
+{
+    peers.iter().filter(|peer| peer.stays).count()
+}
+
 /// For how many milliseconds each of these peers has said no whole line by this moment.
-fn silences<S: Drop>(alloc: Global, peers: &[Peer<S>], moment: u64) -> Result<Vec<u64>, AllocError>
-    ensures { IfOk result
-        (λ all. all.items ≡ silences_at moment (map (λ peer. peer.since_ms) peers.now)) }
+fn silences<S: Read + Write + Drop>(
+    alloc: Global,
+    peers: &[Peer<S>],
+    moment: u64,
+) -> Result<Vec<u64>, AllocError>
+    ensures { IfOk result (λ all. all.items
+        ≡ silences_at moment (map (λ peer. peer_of peer.since_ms peer.stays) peers.now)) }
 {
     let mut all = Vec::with_capacity(alloc, peers.len())?;
     for peer in peers {
-        all.push(moment.saturating_sub(peer.since_ms))?;
+        all.push(peer.silence(moment))?;
     }
     Ok(all)
 }

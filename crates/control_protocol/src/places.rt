@@ -6,6 +6,9 @@ ghost use Rattle.control_protocol.specs.Places.{IsMostSilent, IsPlaceAmong};
 /// So many peers there are at most.
 pub const MAX_PEERS: usize = 8;
 
+/// So many of them may stay, however long they are silent. So others find a place.
+pub const MAX_STAYING: usize = 4;
+
 /// A peer that has said no whole line for so many milliseconds makes room, if there are as many as may be and another waits.
 pub const ROOM_AFTER_MS: u64 = 2_000;
 

@@ -30,6 +30,8 @@ pub enum Request {
     Record,
     /// `record off file`, `record off peer`: this record ends; `record off`: one does.
     EndRecord(Option<RecordKind>),
+    /// `stay`: who asks isn't let go, however long it asks nothing.
+    Stay,
     /// `why LEG`: why the leg's subscriber sees nothing, or what it is sent; `why`: the same of each leg.
     Why(Option<u16>),
     /// `show P`: what is announced to this publisher, with its certificate.
@@ -71,6 +73,8 @@ fn request_of(words: &[&[u8]]) -> Option<Request>
         alone(others, Request::Strangers)
     } else if is_word(first, b"record") {
         recorded(others)
+    } else if is_word(first, b"stay") {
+        alone(others, Request::Stay)
     } else if is_word(first, b"why") {
         asked_why(others)
     } else if is_word(first, b"show") {

@@ -35,6 +35,8 @@ pub enum RequestAction {
     Record,
     /// This record ends.
     EndRecord(RecordKind),
+    /// Who asked stays.
+    Stay,
 }
 
 /// What requests go by in a unit.
@@ -44,6 +46,8 @@ pub struct UnitState {
     pub legs: u16,
     pub endpoints: u16,
     pub records: Records,
+    /// Whether who asked may stay.
+    pub may_stay: bool,
 }
 
 /// What the request leads to in a unit of which this is so.
@@ -73,6 +77,13 @@ pub fn action_for(request: Request, unit: UnitState) -> RequestAction
             }
         }
         Request::EndRecord(named) => end_action(unit.records.meant(named)),
+        Request::Stay => {
+            if unit.may_stay {
+                RequestAction::Stay
+            } else {
+                RequestAction::Refuse(Refused::Full)
+            }
+        }
         Request::Why(leg) => why_action(leg, unit.legs),
         Request::Show(publisher) => {
             if publisher < unit.endpoints {

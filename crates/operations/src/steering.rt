@@ -150,6 +150,7 @@ impl Steering {
             legs: u16::try_from(self.legs.len()).unwrap_or(u16::MAX),
             endpoints: u16::try_from(self.endpoints.len()).unwrap_or(u16::MAX),
             records,
+            may_stay: self.peers.may_stay(),
         };
         match action_for(request, unit) {
             RequestAction::Refuse(why) => self.refuse(why),
@@ -170,6 +171,10 @@ impl Steering {
                 if let Some(peer) = self.peers.take_last() {
                     return PeerRequest::Record(peer);
                 }
+            }
+            RequestAction::Stay => {
+                self.peers.let_stay();
+                self.peers.answer(b"ok\n");
             }
             RequestAction::EndRecord(kind) => {
                 self.peers.answer(b"ok\n");
