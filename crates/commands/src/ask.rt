@@ -5,7 +5,7 @@ ghost use Rattle.std.specs.Io.KnownBytes.{Appends, Keeps};
 ghost use Rattle.std.specs.String.{string_bytes};
 ghost use Rattle.commands.specs.Asking.{asking_line, spaced};
 
-use crate::ask_record::{print_record, write_record};
+use crate::ask_record::{EVENTS, RECORD, print_stream, write_record};
 use crate::connection::{AskFault, connect, print_answer, say_fault};
 use cli::Status;
 use control_protocol::read_answer;
@@ -24,7 +24,7 @@ const MAX_PIECES: u32 = 4_096;
 
 /// Asks the unit that is steered at the path, with these words as a line. Prints the answer without its last line; why it was refused
 /// goes to the error output. `record` and `record FILE` don't end with the answer: what the unit takes in is printed, or written to the
-/// file, until its record ends.
+/// file, until its record ends. Nor does `events`: what happens in the unit is printed, until it ends or lets go of who asks.
 ///
 /// Ends as `Refused` if the unit refused it, `Control` if nobody listens at the path, `Record` if the file can't be had, `Io` if no whole answer
 /// came in time.
@@ -43,7 +43,8 @@ pub fn run_ask<R: AllocGlobal + Files<File = File> + Net, S: AsStr, O: Write, E:
     ensures understood { (result ≢ Status.CommandLine) × (result ≢ Status.Settings) }
 {
     match words {
-        [record] if record.as_str() == "record" => print_record(rt, path, writer, errors),
+        [events] if events.as_str() == "events" => print_stream(rt, path, EVENTS, writer, errors),
+        [record] if record.as_str() == "record" => print_stream(rt, path, RECORD, writer, errors),
         [record, file] if record.as_str() == "record" && file.as_str() != "off" => {
             write_record(rt, path, file.as_str(), errors)
         }

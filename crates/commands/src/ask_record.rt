@@ -1,4 +1,4 @@
-//! `sfu ask PATH record [FILE]`: what a unit takes in, until its record ends.
+//! `sfu ask PATH record [FILE]` and `sfu ask PATH events`: what a unit takes in, or what happens in it, until it says no more.
 
 ghost use Rattle.std.specs.Prelude.{◌≡◌, ◌≢◌, codes};
 ghost use Rattle.std.specs.Io.KnownBytes.{Appends, Keeps};
@@ -23,19 +23,25 @@ const PIECE: usize = 16_384;
 /// So many bytes the answer before a record has at most.
 const ANSWER: usize = 64;
 
+/// What is asked for a record, and for what happens.
+pub(crate) const RECORD: &[u8] = b"record\n";
+
+pub(crate) const EVENTS: &[u8] = b"events\n";
+
 /// What the unit answered.
 #[derive(Drop)]
 enum Begun {
-    /// The record comes from there.
-    Record(UnixStream),
+    /// All else that it says comes from there.
+    Stream(UnixStream),
     /// The whole answer.
     Refused(Vec<u8>),
 }
 
-/// Prints what the unit at the path takes in from now on, as a script, until its record ends.
-pub(crate) fn print_record<R: AllocGlobal + Net, O: Write, E: Write>(
+/// Prints what the unit at the path, which is asked for this, says from now on until it says no more.
+pub(crate) fn print_stream<R: AllocGlobal + Net, O: Write, E: Write>(
     rt: &R,
     path: &str,
+    line: &[u8],
     writer: &mut O,
     errors: &mut E,
 ) -> Status
@@ -46,8 +52,8 @@ pub(crate) fn print_record<R: AllocGlobal + Net, O: Write, E: Write>(
         × Appends (E.contents errors.old) (E.contents errors.new) (codes "nobody listens\n") }
     ensures understood { (result ≢ Status.CommandLine) × (result ≢ Status.Settings) }
 {
-    match begin_at(rt, path) {
-        Ok(Begun::Record(mut stream)) => copy(&mut stream, writer, errors),
+    match begin_at(rt, path, line) {
+        Ok(Begun::Stream(mut stream)) => copy(&mut stream, writer, errors),
         Ok(Begun::Refused(answer)) => print_answer(answer.as_slice(), writer, errors),
         Err(fault) => say_fault(errors, fault),
     }
@@ -66,8 +72,8 @@ pub(crate) fn write_record<R: AllocGlobal + Files<File = File> + Net, E: Write>(
     ensures understood { (result ≢ Status.CommandLine) × (result ≢ Status.Settings) }
 {
     match create(rt, file) {
-        Ok(mut record) => match begin_at(rt, path) {
-            Ok(Begun::Record(mut stream)) => copy(&mut stream, &mut record, errors),
+        Ok(mut record) => match begin_at(rt, path, RECORD) {
+            Ok(Begun::Stream(mut stream)) => copy(&mut stream, &mut record, errors),
             Ok(Begun::Refused(answer)) => {
                 let _ = fs::remove_file(rt, file);
                 let mut nothing = io::sink();
@@ -94,23 +100,23 @@ fn create<R: Files<File = File>>(rt: &R, file: &str) -> io::Result<File> {
         .open(rt, file)
 }
 
-/// Asks the unit at the path for a record.
-fn begin_at<R: AllocGlobal + Net>(rt: &R, path: &str) -> Result<Begun, AskFault> {
+/// Asks the unit at the path for this.
+fn begin_at<R: AllocGlobal + Net>(rt: &R, path: &str, line: &[u8]) -> Result<Begun, AskFault> {
     let mut stream = connect(rt, path)?;
-    if stream.write_all(b"record\n").is_err() {
+    if stream.write_all(line).is_err() {
         return Err(AskFault::Io);
     }
     let answer = read_line(rt.alloc(), &mut stream)?;
     match read_answer(answer.as_slice()) {
         Some(Answered::Done(_)) => match stream.set_read_timeout(None) {
-            Ok(()) => Ok(Begun::Record(stream)),
+            Ok(()) => Ok(Begun::Stream(stream)),
             Err(_) => Err(AskFault::Io),
         },
         _ => Ok(Begun::Refused(answer)),
     }
 }
 
-/// The first line, with its end: byte by byte, since a record may come after it.
+/// The first line, with its end: byte by byte, since more may come after it.
 fn read_line<I: Read>(alloc: Global, stream: &mut I) -> Result<Vec<u8>, AskFault> {
     let mut line = Vec::new(alloc);
     let mut byte = [0; 1];

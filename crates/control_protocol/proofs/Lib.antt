@@ -1,2 +1,3 @@
 pub mod InboxLemmas
 pub mod PlaceLemmas
+pub mod NewsLemmas

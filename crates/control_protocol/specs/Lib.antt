@@ -2,6 +2,9 @@ pub mod Records
 pub mod Requests
 pub mod Answers
 pub mod Inboxes
+pub mod Outboxes
+pub mod Followers
+pub mod PresenceNews
 pub mod Places
 pub mod Patience
 pub mod RequestActions

@@ -5,7 +5,7 @@ use Rattle.request_text.specs.Words.{number_under, words_in}
 use Rattle.control_protocol.specs.declared.records.RecordKind.{RecordKind}
 use Rattle.control_protocol.specs.declared.records.RecordKind.TheVariants.{File, Peer}
 use Rattle.control_protocol.specs.declared.request.Request.{Request}
-use Rattle.control_protocol.specs.declared.request.Request.TheVariants.{Select, Present, Legs, Counts, Metrics, Reports, Refusals, Strangers, Record, EndRecord, Stay, Why, Show, Stop}
+use Rattle.control_protocol.specs.declared.request.Request.TheVariants.{Select, Present, Legs, Counts, Metrics, Reports, Refusals, Strangers, Record, EndRecord, Follow, Stay, Why, Show, Stop}
 
 -- ---- the words after the first
 
@@ -62,6 +62,7 @@ request_words (first ∷ others) =
     else if bytes_eq first (codes "refusals") then alone_words Refusals others
     else if bytes_eq first (codes "strangers") then alone_words Strangers others
     else if bytes_eq first (codes "record") then record_asked others
+    else if bytes_eq first (codes "events") then alone_words Follow others
     else if bytes_eq first (codes "stay") then alone_words Stay others
     else if bytes_eq first (codes "why") then why_asked others
     else if bytes_eq first (codes "show") then show_asked others

@@ -24,7 +24,7 @@ pub enum Refused {
     Unrecorded,
     /// A line has too many bytes; the peer is let go.
     Long,
-    /// There are as many peers as there may be, and this one is let go; or as many that stay as may.
+    /// There are as many peers as there may be, and this one is let go; or as many that stay, or follow, as may.
     Full,
     /// There is no memory for the answer.
     Memory,

@@ -30,6 +30,8 @@ pub enum Request {
     Record,
     /// `record off file`, `record off peer`: this record ends; `record off`: one does.
     EndRecord(Option<RecordKind>),
+    /// `events`: who asks is told what happens, as it happens.
+    Follow,
     /// `stay`: who asks isn't let go, however long it asks nothing.
     Stay,
     /// `why LEG`: why the leg's subscriber sees nothing, or what it is sent; `why`: the same of each leg.
@@ -73,6 +75,8 @@ fn request_of(words: &[&[u8]]) -> Option<Request>
         alone(others, Request::Strangers)
     } else if is_word(first, b"record") {
         recorded(others)
+    } else if is_word(first, b"events") {
+        alone(others, Request::Follow)
     } else if is_word(first, b"stay") {
         alone(others, Request::Stay)
     } else if is_word(first, b"why") {

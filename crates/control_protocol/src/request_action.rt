@@ -35,6 +35,8 @@ pub enum RequestAction {
     Record,
     /// This record ends.
     EndRecord(RecordKind),
+    /// Who asked is told what happens.
+    Follow,
     /// Who asked stays.
     Stay,
 }
@@ -46,6 +48,8 @@ pub struct UnitState {
     pub legs: u16,
     pub endpoints: u16,
     pub records: Records,
+    /// Whether one more may follow what happens.
+    pub may_follow: bool,
     /// Whether who asked may stay.
     pub may_stay: bool,
 }
@@ -77,6 +81,13 @@ pub fn action_for(request: Request, unit: UnitState) -> RequestAction
             }
         }
         Request::EndRecord(named) => end_action(unit.records.meant(named)),
+        Request::Follow => {
+            if unit.may_follow {
+                RequestAction::Follow
+            } else {
+                RequestAction::Refuse(Refused::Full)
+            }
+        }
         Request::Stay => {
             if unit.may_stay {
                 RequestAction::Stay

@@ -1,7 +1,8 @@
 //! Where a record goes: to a file, or to who asked for it. A thread of its own writes it.
 
-ghost use Rattle.std.specs.Prelude.{◌≡◌, true, false, IfOk};
+ghost use Rattle.std.specs.Prelude.{◌≡◌, ℕ, true, false, IfOk};
 ghost use Rattle.std.specs.String.{string_bytes};
+ghost use Rattle.recording.specs.NextRecord.{record_path};
 ghost use Rattle.recording.specs.Tapes.{IsPut, new_tape};
 ghost use Rattle.operations.specs.Records.{BeginsRecord, IsHead};
 
@@ -25,8 +26,18 @@ const MODE: u32 = 0o600;
 /// So many blocks may wait for the disk. With one of 256 KB each that are 64 MB.
 const BLOCKS: usize = 256;
 
+/// Where a record goes that a peer asked for, as people are told: who asks makes the file.
+const PEER: &str = "peer";
+
 /// The version of the program that a record names.
 const VERSION: &str = "1.0.0";
+
+/// A file that was made, and its path.
+#[derive(Drop)]
+struct NewFile {
+    file: File,
+    path: String,
+}
 
 /// Makes a file at the path, which isn't there yet, and records there what a unit takes in, at most so many bytes. The settings that the
 /// unit has come from a file with this SHA-256, but for these first numbers of its legs, if there are any.
@@ -39,10 +50,11 @@ pub fn open_record<R: AllocGlobal + Files<File = File> + Net + Threads + time::C
 ) -> Result<Recorder, RecordFault>
     ensures begun { IfOk result (λ r. (r.has_begun ≡ true) × (r.is_open ≡ true)) }
     ensures head { IfOk result (λ r. BeginsRecord limit settings.now first.now r.tape) }
+    ensures place { IfOk result (λ r. string_bytes r.place ≡ record_path path.now 0) }
 {
     let head = head_of(rt, settings, first)?;
     let written = new_count(rt.alloc())?;
-    let file = create(rt, path)?;
+    let file = create_numbered(rt, path, 0)?;
     record_in(rt, file, limit, head, written)
 }
 
@@ -57,11 +69,24 @@ pub fn open_next_record<R: AllocGlobal + Files<File = File> + Net + Threads + ti
 ) -> Result<Recorder, RecordFault>
     ensures begun { IfOk result (λ r. (r.has_begun ≡ true) × (r.is_open ≡ true)) }
     ensures head { IfOk result (λ r. BeginsRecord limit settings.now first.now r.tape) }
+    ensures place { IfOk result (λ r. (number : ℕ)
+        × (string_bytes r.place ≡ record_path path.now number)) }
 {
     let head = head_of(rt, settings, first)?;
     let written = new_count(rt.alloc())?;
-    let file = make_next(|number| create_numbered(rt, path, number))?;
+    let file = create_next(rt, path)?;
     record_in(rt, file, limit, head, written)
+}
+
+/// The first new file of the record at the path that isn't there.
+fn create_next<R: AllocGlobal + Files<File = File>>(
+    rt: &R,
+    path: &str,
+) -> Result<NewFile, RecordFault>
+    ensures { IfOk result (λ file. (number : ℕ)
+        × (string_bytes file.path ≡ record_path path.now number)) }
+{
+    make_next(|number| create_numbered(rt, path, number))
 }
 
 /// A new file of the record at the path, the one of this number.
@@ -69,29 +94,34 @@ fn create_numbered<R: AllocGlobal + Files<File = File>>(
     rt: &R,
     path: &str,
     number: u32,
-) -> Result<File, RecordFault> {
-    match record_path(rt.alloc(), path, number) {
-        Ok(numbered) => create(rt, numbered.as_str()),
-        Err(_) => Err(RecordFault::NoMemory),
-    }
+) -> Result<NewFile, RecordFault>
+    ensures { IfOk result (λ file. string_bytes file.path ≡ record_path path.now number) }
+{
+    let Ok(path) = record_path(rt.alloc(), path, number) else {
+        return Err(RecordFault::NoMemory);
+    };
+    let file = create(rt, path.as_str())?;
+    Ok(NewFile { file, path })
 }
 
 /// Records in this file what a unit takes in, at most so many bytes, after this head; what stands there counts so.
 fn record_in<R: AllocGlobal + Net + Threads>(
     rt: &R,
-    file: File,
+    file: NewFile,
     limit: u64,
     head: String,
     written: Written,
 ) -> Result<Recorder, RecordFault>
     ensures begun { IfOk result (λ r. (r.has_begun ≡ true) × (r.is_open ≡ true)) }
     ensures tape { IfOk result (λ r. IsPut (new_tape limit) (string_bytes head) r.tape) }
+    ensures place { IfOk result (λ r. r.place ≡ file.path) }
 {
     let Ok(count) = written.shared() else {
         return Err(RecordFault::NoMemory);
     };
+    let NewFile { file, path } = file;
     let (outlet, thread) = start_writer(rt, BLOCKS, RecordTarget::File(file, count))?;
-    let mut recorder = Recorder::new(rt.alloc(), head, written, outlet, thread);
+    let mut recorder = Recorder::new(rt.alloc(), head, path, written, outlet, thread);
     recorder.begin(limit);
     Ok(recorder)
 }
@@ -107,8 +137,11 @@ pub(crate) fn idle_record<R: AllocGlobal + Net + Threads + time::Clock>(
 {
     let head = head_of(rt, settings, first)?;
     let written = new_count(rt.alloc())?;
+    let Ok(place) = String::from_str(rt.alloc(), PEER) else {
+        return Err(RecordFault::NoMemory);
+    };
     let (outlet, thread) = start_writer(rt, BLOCKS, RecordTarget::Nobody)?;
-    Ok(Recorder::new(rt.alloc(), head, written, outlet, thread))
+    Ok(Recorder::new(rt.alloc(), head, place, written, outlet, thread))
 }
 
 /// A count of what stands where a record is written.

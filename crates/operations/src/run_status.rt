@@ -251,6 +251,11 @@ impl RunStatus {
         let Some(mut steering) = self.steering() else {
             return Received::Nothing;
         };
+        for kind in [RecordKind::File, RecordKind::Peer] {
+            if let Some(mut recorder) = self.recorder_of(kind) {
+                steering.tell_end(&mut recorder);
+            }
+        }
         match steering.receive(moment, records) {
             PeerRequest::Unit(received) => return received,
             PeerRequest::Record(peer) => {
@@ -361,8 +366,9 @@ impl RunStatus {
     pub(crate) fn look(&self, traffic: &Traffic) -> Look {
         match self.steering() {
             Some(mut steering) => {
-                steering.look_at_flow(traffic, self.moment_ms.get());
-                steering.look()
+                let moment = self.moment_ms.get();
+                steering.look_at_flow(traffic, moment);
+                steering.look(moment)
             }
             None => Look::Nothing,
         }

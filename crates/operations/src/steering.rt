@@ -3,6 +3,7 @@
 ghost use Rattle.std.specs.Prelude.{◌≡◌, None, IfOk, length, map, replicate};
 
 use crate::diagnosing::Diagnosing;
+use crate::following::Following;
 use addresses::Strangers;
 use control_protocol::{
     EndpointLine, Peers, RecordKind, Records, Refused, RequestAction, SHORTAGE_EACH_MS, Screened,
@@ -12,7 +13,7 @@ use control_protocol::{
 use desk::Desk;
 use diagnosis::reason_lines;
 use ports::{Look, Received, Status, Ticks};
-use recording::Switched;
+use recording::{Recorder, Switched};
 use request_text::desk_text;
 use stats::{
     LegLine, Metric, MetricType, Sample, Traffic, leg_line, leg_report_line, publisher_report_line,
@@ -60,6 +61,8 @@ pub struct Steering {
     /// How many datagrams of each endpoint came beyond the limit, by its number.
     flooded: Vec<u64>,
     diagnosing: Diagnosing,
+    /// Who follows what happens.
+    following: Following<UnixStream>,
 }
 
 /// What a peer wants.
@@ -87,6 +90,8 @@ enum OpenQuestion {
     Refusals,
     /// Why the subscriber of this leg sees nothing, or of each.
     Why(Option<u16>),
+    /// What happened since those who follow were told last.
+    News,
     /// The unit stops: nobody waits for an answer, and who is present is to be known.
     Stop,
 }
@@ -131,6 +136,7 @@ impl Steering {
             strangers: Strangers::new(alloc),
             flooded,
             diagnosing,
+            following: Following::new(alloc),
         })
     }
 
@@ -150,6 +156,7 @@ impl Steering {
             legs: u16::try_from(self.legs.len()).unwrap_or(u16::MAX),
             endpoints: u16::try_from(self.endpoints.len()).unwrap_or(u16::MAX),
             records,
+            may_follow: self.following.may_follow(),
             may_stay: self.peers.may_stay(),
         };
         match action_for(request, unit) {
@@ -170,6 +177,11 @@ impl Steering {
             RequestAction::Record => {
                 if let Some(peer) = self.peers.take_last() {
                     return PeerRequest::Record(peer);
+                }
+            }
+            RequestAction::Follow => {
+                if let Some(peer) = self.peers.take_last() {
+                    self.following.admit(peer, moment);
                 }
             }
             RequestAction::Stay => {
@@ -248,6 +260,11 @@ impl Steering {
         }
     }
 
+    /// Those who follow are told if the record ended that this one makes, once.
+    pub(crate) fn tell_end(&mut self, recorder: &mut Recorder) {
+        self.following.tell_end(recorder);
+    }
+
     /// A datagram came from this address, which is nobody's: an RTP packet under this SSRC, if one is given. If memory is wanting it isn't
     /// listed.
     pub(crate) fn note_stranger(&mut self, from: SocketAddr, source: Option<Ssrc>, moment: u64) {
@@ -296,14 +313,18 @@ impl Steering {
         self.asked == OpenQuestion::Counts
     }
 
-    /// What somebody wants to see of the room.
-    pub(crate) fn look(&self) -> Look {
+    /// What somebody wants to see of the room at this moment.
+    pub(crate) fn look(&mut self, moment: u64) -> Look {
+        if self.asked == OpenQuestion::Nothing && self.following.is_due(moment) {
+            self.begin(OpenQuestion::News);
+        }
         match self.asked {
             OpenQuestion::Look(look) => look,
             OpenQuestion::Metrics
             | OpenQuestion::Reports
             | OpenQuestion::Refusals
             | OpenQuestion::Why(_)
+            | OpenQuestion::News
             | OpenQuestion::Stop => Look::Presence,
             OpenQuestion::Legs => Look::Stays,
             OpenQuestion::Nothing | OpenQuestion::Counts => Look::Nothing,
@@ -408,6 +429,11 @@ impl Steering {
                 let text = self.why_text(leg, traffic, moment);
                 self.push(text);
                 self.answer();
+            }
+            OpenQuestion::News => {
+                self.asked = OpenQuestion::Nothing;
+                let present = self.present.as_slice();
+                self.following.tell(present, traffic, moment);
             }
             OpenQuestion::Nothing
             | OpenQuestion::Counts

@@ -51,3 +51,8 @@ end_name Limit = codes "limit"
 end_name Failed = codes "failed"
 end_name Slow = codes "slow"
 end_name Memory = codes "memory"
+
+-- what those who follow are told of a record that ended: where it went, and why
+abbrev pub ended_line : List ℕ → End → List ℕ
+ended_line place why =
+    codes "record ended " ++ (place ++ (codes " " ++ (end_name why ++ codes "\n")))

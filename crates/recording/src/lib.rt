@@ -24,5 +24,5 @@ pub use next_record::{MAX_RECORD, make_next, record_path};
 pub use record_target::{RecordTarget, Written};
 pub use recorder::{RECORD_LIMIT, Recorder, Switched};
 pub use taken::{Origin, Taken};
-pub use tape::{End, Tape, end_name};
+pub use tape::{End, Tape, end_name, ended_line};
 pub use writer_thread::{Outlet, start_writer};

@@ -1,6 +1,6 @@
 //! Who writes down what a unit takes in: it makes the lines, and hands them on to the thread that writes them.
 
-ghost use Rattle.std.specs.Prelude.{◌≡◌, true, false};
+ghost use Rattle.std.specs.Prelude.{◌≡◌, true, false, None, if◌then◌else◌};
 ghost use Rattle.std.specs.String.{string_bytes};
 ghost use Rattle.events.specs.declared.event.Event.TheVariants.{Tick};
 ghost use Rattle.recording.specs.Lines.{event_lines};
@@ -46,6 +46,8 @@ pub struct Recorder {
     alloc: Global,
     /// The lines with which each record of this unit begins.
     head: String,
+    /// Where its records go, as people are told.
+    place: String,
     tape: Tape,
     /// How much of it stands where it is written.
     written: Written,
@@ -53,6 +55,8 @@ pub struct Recorder {
     has_begun: bool,
     /// Whether what is handed on is written to somewhere.
     is_open: bool,
+    /// Whether somebody was told that the record ended.
+    is_told: bool,
     /// The moment from which on what waits is handed on.
     due_ms: u64,
     /// The way to the thread that writes: blocks of whole lines.
@@ -61,26 +65,31 @@ pub struct Recorder {
 }
 
 impl Recorder {
-    /// Of a unit for which nobody wants a record yet. Each record begins with these lines; where the first is written counts so.
+    /// Of a unit for which nobody wants a record yet. Each record begins with these lines, and goes to this place, as people are told; where
+    /// the first is written counts so.
     pub fn new(
         alloc: Global,
         head: String,
+        place: String,
         written: Written,
         outlet: Outlet<RecordTarget>,
         thread: JoinHandle<()>,
     ) -> Recorder
-        ensures head { result.head ≡ head }
+        ensures head { (result.head ≡ head) × (result.place ≡ place) }
         ensures idle { (result.has_begun ≡ false) × (result.is_open ≡ false) }
+        ensures told { result.is_told ≡ true }
     {
         let mut nothing = Tape::new(alloc, 0);
         nothing.end(End::Off);
         Recorder {
             alloc,
             head,
+            place,
             tape: nothing,
             written,
             has_begun: false,
             is_open: false,
+            is_told: true,
             due_ms: 0,
             outlet,
             thread,
@@ -91,11 +100,14 @@ impl Recorder {
     pub fn begin(&mut self, limit: u64)
         ensures tape { IsPut (new_tape limit) (string_bytes self.old.head) self.new.tape }
         ensures begun { (self.new.has_begun ≡ true) × (self.new.is_open ≡ true) }
+        ensures untold { self.new.is_told ≡ false }
+        ensures place { self.new.place ≡ self.old.place }
     {
         self.tape = Tape::new(self.alloc, limit);
         self.tape.put(self.head.as_str());
         self.has_begun = true;
         self.is_open = true;
+        self.is_told = false;
     }
 
     /// A record begins at this moment in the middle of a run, for this peer, with these legs as they are. A peer for whom it can't begin is
@@ -208,6 +220,31 @@ impl Recorder {
         if !self.outlet.hand_on(block) {
             self.tape.end(End::Slow);
         }
+    }
+
+    /// Where its records go, as people are told.
+    pub fn place(&self) -> &str
+        ensures { result.now ≡ string_bytes self.now.place }
+    {
+        self.place.as_str()
+    }
+
+    /// Why the record ended, if it did and nobody was told so.
+    pub fn untold_end(&self) -> Option<End>
+        ensures { result ≡ (if self.now.is_told then None else self.now.tape.end) }
+    {
+        if self.is_told {
+            return None;
+        }
+        self.tape.why_ended()
+    }
+
+    /// Somebody is told that the record ended.
+    pub fn note_told(&mut self)
+        ensures told { self.new.is_told ≡ true }
+        ensures tape { self.new.tape ≡ self.old.tape }
+    {
+        self.is_told = true;
     }
 
     /// How many bytes of the record stand where it is written, and why it ended, if it did; `None` if nobody wanted one so far.

@@ -1,13 +1,13 @@
 //! What is written of a record, and when it ends.
 
-ghost use Rattle.std.specs.Prelude.{◌≡◌, ◌<◌, ◌≤◌, ◌+◌, ◌++◌, length, take, MatchOption, MatchResult, OnOk, OnErr};
+ghost use Rattle.std.specs.Prelude.{◌≡◌, ◌<◌, ◌≤◌, ◌+◌, ◌++◌, length, take, IfOk, MatchOption, MatchResult, OnOk, OnErr};
 ghost use Rattle.std.specs.String.{string_bytes};
 ghost use Rattle.events.specs.declared.event.Event.TheVariants.{Hear, Tick};
 ghost use Rattle.hex.specs.Hex.{encode_lower};
 ghost use Rattle.recording.specs.Lines.{event_lines, follow_line};
 ghost use Rattle.recording.specs.Taken.{taken_lines, with_origin};
 ghost use Rattle.recording.specs.declared.tape.End.TheVariants.{Memory};
-ghost use Rattle.recording.specs.Tapes.{IsMadeAndPut, IsPut, end_name, ended, new_tape, taken};
+ghost use Rattle.recording.specs.Tapes.{IsMadeAndPut, IsPut, end_name, ended, ended_line, new_tape, taken};
 
 use crate::digits::append_digits;
 use crate::line::{changed_lines, made_lines, selected_lines, ticked_lines, write_heard_head};
@@ -253,6 +253,14 @@ fn append_parts(list: &mut Vec<u8>, head: &str, bytes: &[u8]) -> Result<(), Allo
     list.extend_from_slice(head.as_bytes())?;
     append_digits(list, bytes)?;
     list.extend_from_slice("\nfollow\n".as_bytes())
+}
+
+/// What those who follow are told of a record that ended for this reason, where it went. Refused for want of memory alone.
+pub fn ended_line(alloc: Global, place: &str, end: End) -> Result<String, AllocError>
+    ensures { IfOk result (λ line. string_bytes line ≡ ended_line place.now end) }
+{
+    let why = end_name(end);
+    format!(in alloc; "record ended {place} {why}\n")
 }
 
 /// The word for why a record ended.

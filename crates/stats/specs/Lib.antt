@@ -6,3 +6,4 @@ pub mod Reports
 pub mod ReportLines
 pub mod ReportFigures
 pub mod Refusals
+pub mod RefusalNews

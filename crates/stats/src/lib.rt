@@ -4,7 +4,7 @@
 //! Read `traffic` first, the counts that threads raise, in `cells`. It stands on `endpoint_count` and `leg_count`, what was counted of an endpoint and on a leg, and
 //! `reports`, what report blocks say, and how long that is shown; `report_cells` is where threads leave it, `numbered_report` what is shown
 //! of it. `refusals` says why what came was refused,
-//! `refusal_cells` is where threads count it. `lines`, `report_lines` and `refusal_texts` are texts for people, `metrics` those for
+//! `refusal_cells` is where threads count it, `refusal_news` what is told of it as it happens. `lines`, `report_lines` and `refusal_texts` are texts for people, `metrics` those for
 //! Prometheus, `figures` and `report_figures` which metrics there are.
 #![tactic(auto)]
 
@@ -16,6 +16,7 @@ mod lines;
 mod metrics;
 mod numbered_report;
 mod refusal_cells;
+mod refusal_news;
 mod refusal_texts;
 mod refusals;
 mod report_cells;
@@ -30,6 +31,7 @@ pub use leg_count::LegCount;
 pub use lines::{LegLine, leg_line};
 pub use metrics::{Metric, MetricType, Sample, push_metric};
 pub use numbered_report::NumberedReport;
+pub use refusal_news::push_refusal_news;
 pub use refusal_texts::{push_refusal_figures, push_refusal_lines};
 pub use refusals::RefusedCount;
 pub use report_figures::{MetricValue, ReportFigure, push_report_figures};

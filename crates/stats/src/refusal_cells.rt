@@ -1,11 +1,11 @@
 //! Where threads count what was refused: any raises, any reads.
 
-ghost use Rattle.std.specs.Prelude.{IsSome, OnOk};
+ghost use Rattle.std.specs.Prelude.{IfOk, IsSome, OnOk};
 ghost use Rattle.stats.specs.Refusals.{AreCounted};
 
 use crate::refusals::{REFUSALS, RefusedCount, reason_number};
 use events::Refusal;
-use std::alloc::AllocError;
+use std::alloc::{AllocError, Global};
 use std::array::from_fn;
 use std::sync::atomic::{AtomicU64, Ordering};
 
@@ -67,6 +67,19 @@ impl RefusalCells {
             }
         }
         Ok(())
+    }
+
+    /// How often each reason refused what came of this endpoint, of those that did. Refused for want of memory alone.
+    pub(crate) fn counts(
+        &self,
+        alloc: Global,
+        endpoint: Option<u16>,
+    ) -> Result<Vec<RefusedCount>, AllocError>
+        ensures { IfOk result (λ all. AreCounted all.items) }
+    {
+        let mut all = Vec::new(alloc);
+        self.push_counts(endpoint, &mut all)?;
+        Ok(all)
     }
 
     fn seen(&self, refusal: Refusal) -> u64 {

@@ -102,7 +102,7 @@ fn push_end(text: &mut String, count: RefusedCount) -> Result<(), AllocError>
     text.push_str("\n")
 }
 
-fn push_whose(text: &mut String, endpoint: Option<u16>) -> Result<(), AllocError>
+pub(crate) fn push_whose(text: &mut String, endpoint: Option<u16>) -> Result<(), AllocError>
     ensures { OnOk result (string_bytes text.new ≡ string_bytes text.old ++ whose_word endpoint) }
 {
     match endpoint {
@@ -111,7 +111,7 @@ fn push_whose(text: &mut String, endpoint: Option<u16>) -> Result<(), AllocError
     }
 }
 
-fn push_reason(text: &mut String, refusal: Refusal) -> Result<(), AllocError>
+pub(crate) fn push_reason(text: &mut String, refusal: Refusal) -> Result<(), AllocError>
     ensures { OnOk result (string_bytes text.new ≡ string_bytes text.old ++ reason_part refusal) }
 {
     let kind = kind_word(refusal);

@@ -34,7 +34,7 @@ pub struct Traffic {
 }
 
 impl Traffic {
-    ghost use Rattle.std.specs.Prelude.{◌≡◌, ◌≤◌, ◌<◌, length, vec_len, IfOk, IfSome, MatchOption};
+    ghost use Rattle.std.specs.Prelude.{◌≡◌, ◌≤◌, ◌<◌, ◌+◌, length, vec_len, IfOk, IfSome, MatchOption};
     ghost use Rattle.stats.specs.Refusals.{AreCounted};
     ghost use Rattle.stats.specs.Reports.{AreShown};
 
@@ -291,6 +291,21 @@ impl Traffic {
                 .push_counts(Some(number), &mut all)?;
         }
         self.refused.push_counts(None, &mut all)?;
+        Ok(all)
+    }
+
+    /// The same of each endpoint by its number, and then of what no datagram led to.
+    pub fn refusals_by_endpoint(&self, alloc: Global) -> Result<Vec<Vec<RefusedCount>>, AllocError>
+        ensures { IfOk result (λ all. length all.items ≡ vec_len self.now.endpoints + 1) }
+    {
+        let mut all = Vec::new(alloc);
+        for place in 0..self.endpoints.len() {
+            let counts = self.endpoints[place]
+                .refused
+                .counts(alloc, Some(number_of(place)))?;
+            all.push(counts)?;
+        }
+        all.push(self.refused.counts(alloc, None)?)?;
         Ok(all)
     }
 
