@@ -1,7 +1,7 @@
 //! Peers that follow what happens: each is told of it in lines as it happens, and none is waited for.
 
-ghost use Rattle.std.specs.Prelude.{◌≡◌, IfOk, map};
-ghost use Rattle.control_protocol.specs.Followers.{follower_of, new_follower, told, told_all};
+ghost use Rattle.std.specs.Prelude.{◌≡◌, map};
+ghost use Rattle.control_protocol.specs.Followers.{follower_of, told, told_all};
 
 use crate::outbox::Outbox;
 use crate::patience::is_let_go;
