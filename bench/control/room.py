@@ -32,10 +32,13 @@ listen = "127.0.0.1:{unit}"
 
 [[endpoint]]
 ssrc = 16
+name = "ann"
 address = "127.0.0.1:{publisher}"
+rtpmap = ["96 H264/90000"]
 
 [[endpoint]]
 ssrc = 17
+cname = "ben@192.0.2.8"
 address = "127.0.0.1:{subscriber}"
 
 [[endpoint]]
@@ -53,6 +56,9 @@ subscriber = 2
 publisher = 0
 out_ssrc = 258
 """
+# The labels of both that come, and of the leg between them.
+ANN, BEN = 'endpoint="0",name="ann"', 'endpoint="1",name="ben@192.0.2.8"'
+ANN_TO_BEN = 'leg="0",publisher="ann",subscriber="ben@192.0.2.8"'
 # RTP packets of a turn; their payload has so many bytes.
 PACKETS, PAYLOAD = 20, 50
 TURNS = 10
@@ -131,7 +137,7 @@ def play(program, workers, folder):
     unit = subprocess.Popen([program, "serve", file, "--control", path], stdout=subprocess.PIPE, stderr=subprocess.PIPE, text=True)
     try:
         unit.stderr.readline()
-        wants("never heard", ask(program, path, "present").count(" absent never heard refused 0\n"), 3)
+        wants("never heard", ask(program, path, "present").count(" absent never heard refused 0 name "), 3)
         subscriber.sendto(struct.pack("!BBHI", 0x80, 201, 1, 17), unit_at)
         seq, came = 7, []
         for turn in range(TURNS):
@@ -156,8 +162,8 @@ def play(program, workers, folder):
         wants("what was never sent", [it for it in received(subscriber) if not is_rtcp(it)], [])
         sent = TURNS * PACKETS + 1
         legs = [re.sub(r" stay \d+ ", " stay S ", it) for it in ask(program, path, "legs").splitlines()]
-        wants("leg 0", legs[0], f"0 from 0 to 1 on stay S packets {sent} octets {sent * PAYLOAD} resent 1 missed 1 next {last + 1} skipped 0")
-        wants("leg 1", legs[1], "1 from 0 to 2 on stay none packets 0 octets 0 resent 0 missed 0 next none skipped 0")
+        wants("leg 0", legs[0], f"0 from 0 to 1 on stay S packets {sent} octets {sent * PAYLOAD} resent 1 missed 1 next {last + 1} skipped 0 publisher ann subscriber ben@192.0.2.8")
+        wants("leg 1", legs[1], "1 from 0 to 2 on stay none packets 0 octets 0 resent 0 missed 0 next none skipped 0 publisher ann subscriber 2")
         # a packet of version 1 is refused (RFC 3550, section 5.1), and so is a PLI about a source that is no leg's
         subscriber.sendto(struct.pack("!BBHII", 0x40, 96, 7, 3000, 17), unit_at)
         for _ in range(2):
@@ -168,21 +174,23 @@ def play(program, workers, folder):
             "endpoint 1 room 3 times 2: no such leg, or no stay on it",
         ])
         present = ask(program, path, "present").splitlines()
-        wants("refused in all", [it.split()[-1] for it in present], ["0", "3", "0"])
+        wants("refused in all", [re.search(r" refused (\d+) ", it)[1] for it in present], ["0", "3", "0"])
+        wants("names", [it.split()[-1] for it in present], ["ann", "ben@192.0.2.8", "2"])
         for line, state in zip(present, ("present heard", "present heard", "absent never heard")):
             if state not in line:
                 sys.exit(f"present: {line}")
         metrics = ask(program, path, "metrics").splitlines()
         for line in (
-            f'sfu_rtp_packets_received_total{{endpoint="0"}} {2 * TURNS * PACKETS}',
-            f'sfu_received_bytes_total{{endpoint="0"}} {2 * TURNS * PACKETS * (12 + PAYLOAD)}',
-            'sfu_nacks_received_total{endpoint="1"} 2',
-            'sfu_leg_packets_missed_total{leg="0"} 1',
-            'sfu_refused_total{endpoint="1",kind="room",reason="3"} 2',
-            'sfu_endpoint_present{endpoint="1"} 1',
-            'sfu_endpoint_present{endpoint="2"} 0',
-            f'sfu_leg_packets_sent_total{{leg="0"}} {sent}',
-            'sfu_leg_packets_resent_total{leg="0"} 1',
+            f'sfu_rtp_packets_received_total{{{ANN}}} {2 * TURNS * PACKETS}',
+            f'sfu_received_bytes_total{{{ANN}}} {2 * TURNS * PACKETS * (12 + PAYLOAD)}',
+            f'sfu_nacks_received_total{{{BEN}}} 2',
+            f'sfu_leg_packets_missed_total{{{ANN_TO_BEN}}} 1',
+            f'sfu_refused_total{{{BEN},kind="room",reason="3"}} 2',
+            f'sfu_endpoint_present{{{BEN}}} 1',
+            'sfu_endpoint_present{endpoint="2",name="2"} 0',
+            f'sfu_leg_packets_sent_total{{{ANN_TO_BEN}}} {sent}',
+            f'sfu_leg_packets_resent_total{{{ANN_TO_BEN}}} 1',
+            f'sfu_leg_on{{{ANN_TO_BEN}}} 1',
         ):
             if line not in metrics:
                 sys.exit(f"metrics have no {line}")
@@ -327,12 +335,12 @@ def play_reports(command, workers, folder):
         wants("the publisher", [it.split(" sent")[0] for it in told], [f"publisher 0 fraction {fraction} lost 2 jitter {jitter}"])
         metrics = asked_there(path, "metrics").splitlines()
         for line in (
-            f'sfu_leg_reported_loss_ratio{{leg="0"}} {130 / 256:.8f}',
-            'sfu_leg_reported_lost_packets{leg="0"} 3',
-            'sfu_leg_reported_jitter_timestamp_units{leg="0"} 7',
-            f'sfu_leg_round_trip_seconds{{leg="0"}} {trip / 1000:.3f}',
-            'sfu_publisher_reported_lost_packets{endpoint="0"} 2',
-            f'sfu_publisher_reported_jitter_timestamp_units{{endpoint="0"}} {jitter}',
+            f'sfu_leg_reported_loss_ratio{{{ANN_TO_BEN}}} {130 / 256:.8f}',
+            f'sfu_leg_reported_lost_packets{{{ANN_TO_BEN}}} 3',
+            f'sfu_leg_reported_jitter_seconds{{{ANN_TO_BEN}}} 0.{7 * 10**6 // 90000:06}',
+            f'sfu_leg_round_trip_seconds{{{ANN_TO_BEN}}} {trip / 1000:.3f}',
+            f'sfu_publisher_reported_lost_packets{{{ANN}}} 2',
+            f'sfu_publisher_reported_jitter_seconds{{{ANN}}} {jitter // 90000}.{jitter * 10**6 // 90000 % 10**6:06}',
         ):
             if line not in metrics:
                 sys.exit(f"metrics have no {line}")

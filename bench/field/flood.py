@@ -136,7 +136,7 @@ def play(program, seconds, limit, goings, strangers, folder):
         is_over.set()
         unit.kill()
     reader.join(2)
-    own, flooded = (int(re.search(rf'^sfu_endpoint_flooded_total\{{endpoint="{it}"\}} (\d+)$', metrics, re.M).group(1)) for it in (0, 2))
+    own, flooded = (int(re.search(rf'^sfu_endpoint_flooded_total\{{endpoint="{it}",.*\}} (\d+)$', metrics, re.M).group(1)) for it in (0, 2))
     lines = [it for it in lines if " present " in it or it.startswith("present")]
     timed = [it for it in lines if re.match(r"\d{4}-\d\d-\d\dT\d\d:\d\d:\d\dZ present ", it)]
     print(f"{len(came)} of {sent} packets came, {own} were beyond the limit themselves; of {flood} datagrams of the other one {flooded} weren't heard; unread {counts.get('unread', 0)}; the unit took {cost:.2f} s of processor time")

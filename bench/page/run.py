@@ -42,10 +42,12 @@ listen = "127.0.0.1:{unit}"
 
 [[endpoint]]
 ssrc = 16
+name = "ann"
 address = "127.0.0.1:{first}"
 
 [[endpoint]]
 ssrc = 17
+cname = "ben@192.0.2.8"
 address = "127.0.0.1:{second}"
 
 [[endpoint]]
@@ -341,7 +343,9 @@ def shown(browser, folder):
     browser.says(cells("legs", 2), "on|on|off")
     browser.says("[...document.querySelectorAll('#matrix tbody tr')].map(it => [...it.children].map(cell => cell.textContent || "
                  "(cell.firstElementChild ? cell.firstElementChild.getAttribute('aria-label') : '-')).join(' ')).join('|')",
-                 "0 - on|1 on -|2 off -")
+                 "ann (0) - on|ben@192.0.2.8 (1) on -|2 off -")
+    browser.says(cells("endpoints", 1), "ann (0)|ben@192.0.2.8 (1)|2")
+    browser.says(cells("legs", 3), "ann (0)|ben@192.0.2.8 (1)|ann (0)")
     browser.says("[...document.querySelectorAll('#gallery img')].map(it => it.naturalWidth > 0 && new URL(it.src).pathname).join('|')",
                  "/publishers/0.svg|/publishers/1.svg")
     # Of each endpoint a curve of at least three dots, the rate of both that send.
@@ -361,9 +365,9 @@ MARKUP = "<img src=x onerror=hit()><script>hit()</script>"
 
 def hostile(program, page, fields):
     """The page, under its own policy, of a state that has markup in place of all: each is shown as text, or the state isn't read."""
-    leg = dict.fromkeys(("leg", "subscriber", "on", "stay", "packets", "octets", "resent", "missed", "next", "fraction_lost", "jitter",
-                         "round_trip_ms", "reported_ago_ms"), MARKUP)
-    endpoint = dict.fromkeys(("number", "ssrc", "address", "present", "heard_ago_ms", "refused", "heard_octets", "sent_octets",
+    leg = dict.fromkeys(("leg", "subscriber", "on", "stay", "publisher_name", "subscriber_name", "packets", "octets", "resent", "missed", "next",
+                         "fraction_lost", "jitter", "round_trip_ms", "reported_ago_ms"), MARKUP)
+    endpoint = dict.fromkeys(("number", "ssrc", "address", "present", "heard_ago_ms", "name", "refused", "heard_octets", "sent_octets",
                               "fraction_lost", "jitter", "reported_ago_ms"), MARKUP)
     counts = dict.fromkeys(("present", "heard", "sent", "failed", "lost", "dropped", "strangers", "unread"), MARKUP)
     state = {"moment_ms": MARKUP, "endpoints": [endpoint], "legs": [{**leg, "publisher": MARKUP}], "counts": counts}

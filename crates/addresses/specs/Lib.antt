@@ -6,6 +6,7 @@ pub mod LearnedAddress
 pub mod Learners
 pub mod Clients
 pub mod Mixed
+pub mod Names
 pub mod AddressBook
 pub mod Places
 pub mod ServedFile

@@ -49,7 +49,7 @@ fn origins_of(
 }
 
 /// The endpoint with this number; all beyond 65535 are that one.
-fn endpoint_at(number: usize) -> u16
+pub fn endpoint_at(number: usize) -> u16
     ensures { result ≡ endpoint_at number }
 {
     u16::try_from(number).unwrap_or(u16::MAX)

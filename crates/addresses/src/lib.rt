@@ -4,7 +4,7 @@
 //! Read `clients` first, then `served_file`, the settings of a unit with all places, and `mixed`, what its clients may not share. `directory` is where what is sent goes, as all threads that send look
 //! it up, also to addresses that are learned. `sender_table` is who sent a datagram; it stands on `endpoints_by_key`, who is at a key. `learners` are whose addresses are learned, each
 //! with its `learned_address`, within its `network`; `listeners` the endpoints that are present whatever they say, for whom a report is to be made. `address_book` is all of these by
-//! the settings. `latest` are those whom nobody knows.
+//! the settings. `latest` are those whom nobody knows, and `names` is what the others are called.
 #![tactic(auto)]
 
 mod address_book;
@@ -16,11 +16,12 @@ mod learned_address;
 mod learners;
 mod listeners;
 mod mixed;
+mod names;
 mod network;
 mod sender_table;
 mod served_file;
 
-pub use address_book::{learners_of, listeners_of, senders_of};
+pub use address_book::{endpoint_at, learners_of, listeners_of, senders_of};
 pub use clients::{
     AddressKey, Addresses, Client, ClientFault, Listening, Location, is_reachable, read_clients,
 };
@@ -30,6 +31,7 @@ pub use latest::{MAX_STRANGERS, Stranger, Strangers};
 pub use learned_address::{Kind, LearnedAddress};
 pub use learners::{Arrived, Learner, Learners};
 pub use listeners::{Listeners, Standing};
+pub use names::endpoint_names;
 pub use network::{Network, read_network};
 pub use policy::Rules;
 pub use sender_table::{FirstPacket, SenderTable, SourceAddress};

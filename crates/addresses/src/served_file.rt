@@ -166,6 +166,8 @@ fn misplaced(alloc: Global, table: &Table) -> Option<Place<'static>> {
 /// The first such key of an endpoint's table.
 fn misplaced_key(alloc: Global, listen: Listening, endpoint: &Value) -> Option<AddressKey> {
     let text = ClientText {
+        name: None,
+        cname: None,
         address: copied(alloc, endpoint.get("address")),
         learn_from: copied(alloc, endpoint.get("learn_from")),
         rtcp_address: copied(alloc, endpoint.get("rtcp_address")),

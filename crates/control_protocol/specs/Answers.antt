@@ -81,11 +81,16 @@ abbrev pub other_source_part : Option Ssrc → List ℕ
 other_source_part None = []
 other_source_part (Some source) = codes " under ssrc " ++ decimal source.0
 
+-- what it is called
+abbrev pub name_end : List ℕ → List ℕ
+name_end name = codes " name " ++ (name ++ codes "\n")
+
 abbrev pub end_part : EndpointLine → List ℕ
-end_part l = listening_word l.only_listens ++ (other_source_part l.other_source ++ codes "\n")
+end_part l =
+    listening_word l.only_listens ++ (other_source_part l.other_source ++ name_end l.name.now)
 
 -- The line of an endpoint: who it is, when it was heard last, how often something of it was refused, whether it only listens,
--- and under which other SSRC it sent.
+-- under which other SSRC it sent, and what it is called.
 abbrev pub presence_line : EndpointLine → List ℕ
 presence_line l =
     who_part l.endpoint l.source.0 l.address l.is_present

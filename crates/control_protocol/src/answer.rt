@@ -2,7 +2,7 @@
 
 ghost use Rattle.std.specs.Prelude.{◌≡◌, ◌++◌, codes, IfOk, OnOk};
 ghost use Rattle.std.specs.String.{string_bytes};
-ghost use Rattle.control_protocol.specs.Answers.{counts_lines, end_part, flow_part, heard_part, listening_word, loss_part, other_source_part, presence_line, refusal_text, refused_part, stranger_line, unheard_part, unread_part, who_part};
+ghost use Rattle.control_protocol.specs.Answers.{counts_lines, end_part, flow_part, heard_part, listening_word, loss_part, name_end, other_source_part, presence_line, refusal_text, refused_part, stranger_line, unheard_part, unread_part, who_part};
 
 use ports::Status;
 use std::alloc::{AllocError, Global};
@@ -126,7 +126,7 @@ fn push_unread(text: &mut String, unread: Option<u64>) -> Result<(), AllocError>
 
 /// An endpoint as `present` tells of it.
 #[derive(Clone, Copy, PartialEq, Eq)]
-pub struct EndpointLine {
+pub struct EndpointLine<'a> {
     /// Its number.
     pub endpoint: u16,
     /// The SSRC that it has by the settings.
@@ -141,12 +141,14 @@ pub struct EndpointLine {
     pub only_listens: bool,
     /// Under which other SSRC an RTP packet came from its address last; `None` if none did.
     pub other_source: Option<Ssrc>,
+    /// What it is called.
+    pub name: &'a str,
 }
 
 /// The line of an endpoint for `present`: its number, source and address, and whether it is present. Then how many milliseconds ago it was heard
-/// last, if ever, and how often something of it was refused; that it only listens, if it does, and under which other SSRC it sent last.
-/// Refused for want of memory alone.
-pub fn present_line(alloc: Global, line: &EndpointLine) -> Result<String, AllocError>
+/// last, if ever, and how often something of it was refused; that it only listens, if it does, and under which other SSRC it sent last. At
+/// last what it is called. Refused for want of memory alone.
+pub fn present_line(alloc: Global, line: &EndpointLine<'_>) -> Result<String, AllocError>
     ensures { IfOk result (λ text. string_bytes text ≡ presence_line line.now) }
 {
     let mut text = who_part(
@@ -163,12 +165,12 @@ pub fn present_line(alloc: Global, line: &EndpointLine) -> Result<String, AllocE
 }
 
 /// What stands at the end of the line of an endpoint.
-fn push_end(text: &mut String, line: &EndpointLine) -> Result<(), AllocError>
+fn push_end(text: &mut String, line: &EndpointLine<'_>) -> Result<(), AllocError>
     ensures { OnOk result (string_bytes text.new ≡ string_bytes text.old ++ end_part line.now) }
 {
     text.push_str(listening_word(line.only_listens))?;
     push_other_source(text, line.other_source)?;
-    text.push_str("\n")
+    push_name(text, line.name)
 }
 
 /// Whether the endpoint only listens.
@@ -187,6 +189,13 @@ fn push_other_source(text: &mut String, source: Option<Ssrc>) -> Result<(), Allo
         Some(source) => write!(text, " under ssrc {}", source.0),
         None => Ok(()),
     }
+}
+
+/// What it is called.
+fn push_name(text: &mut String, name: &str) -> Result<(), AllocError>
+    ensures { OnOk result (string_bytes text.new ≡ string_bytes text.old ++ name_end name.now) }
+{
+    write!(text, " name {name}\n")
 }
 
 /// Who an endpoint is, and whether it is present.

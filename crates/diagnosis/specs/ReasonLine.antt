@@ -12,12 +12,12 @@ use Rattle.diagnosis.specs.declared.reasons.Reason.TheVariants.{Off, OtherSource
 use Rattle.diagnosis.specs.Reasons.{report_in}
 use Rattle.diagnosis.specs.declared.sightings.StraySource.{StraySource}
 
--- which leg, between whom
-abbrev pub leg_words : LegLine → List ℕ
-leg_words l =
+-- which leg, between endpoints that are called so
+abbrev pub leg_words : ℕ → List ℕ → List ℕ → List ℕ
+leg_words leg publisher subscriber =
     codes "leg "
-    ++ (decimal l.leg ++ (codes " from " ++ (decimal l.publisher
-    ++ (codes " to " ++ (decimal l.subscriber ++ codes ": ")))))
+    ++ (decimal leg
+    ++ (codes " from " ++ (publisher ++ (codes " to " ++ (subscriber ++ codes ": ")))))
 
 abbrev pub opening_words : Reason → List ℕ
 opening_words Off = codes "off"
@@ -70,9 +70,10 @@ detail_words (OnlyListens rate ago) = heard_words ago ++ rate_words rate
 detail_words (Unreported rate ago) = last_words ago ++ rate_words rate
 
 -- the line of a leg
-abbrev pub line_of_reason : LegLine → Reason → List ℕ
-line_of_reason l reason =
-    leg_words l ++ (opening_words reason ++ (detail_words reason ++ codes "\n"))
+abbrev pub line_of_reason : ℕ → List ℕ → List ℕ → Reason → List ℕ
+line_of_reason leg publisher subscriber reason =
+    leg_words leg publisher subscriber
+    ++ (opening_words reason ++ (detail_words reason ++ codes "\n"))
 
 -- what was reported of the leg
 abbrev pub reported_line : LegLine → Option ReceptionReport → ℕ → List ℕ
@@ -80,9 +81,9 @@ reported_line l None moment = []
 reported_line l (Some report) moment = line_of_leg_report l report moment
 
 -- the line of a leg, and of what is reported of it
-abbrev pub lines_of_reason : LegLine → Reason → ℕ → List ℕ
-lines_of_reason l reason moment =
-    line_of_reason l reason ++ reported_line l (report_in reason) moment
+abbrev pub lines_of_reason : LegLine → List ℕ → List ℕ → Reason → ℕ → List ℕ
+lines_of_reason l publisher subscriber reason moment =
+    line_of_reason l.leg publisher subscriber reason ++ reported_line l (report_in reason) moment
 
 -- whose packets they are
 abbrev pub endpoint_words : ℕ → List ℕ

@@ -6,22 +6,24 @@ ghost use Rattle.diagnosis.specs.ReasonLine.{detail_words, endpoint_words, heard
 
 use crate::reasons::Reason;
 use crate::sightings::StraySource;
-use stats::{LegLine, ReceptionReport, leg_report_line};
+use stats::{LegLine, LegNames, ReceptionReport, leg_report_line};
 use std::alloc::{AllocError, Global};
 use std::net::SocketAddr;
 use tmmbr_tuple::Ssrc;
 
-/// The line of a leg: between whom it is, and the reason. If its subscriber reports, that is followed by what it reported last, and how many
-/// milliseconds before this moment. Refused for want of memory alone.
+/// The line of a leg: between whom it is, by their names, and the reason. If its subscriber reports, that is followed by what it reported last,
+/// and how many milliseconds before this moment. Refused for want of memory alone.
 pub fn reason_lines(
     alloc: Global,
     line: LegLine,
+    names: LegNames<'_>,
     reason: Reason,
     moment: u64,
 ) -> Result<String, AllocError>
-    ensures { IfOk result (λ text. string_bytes text ≡ lines_of_reason line reason moment) }
+    ensures { IfOk result (λ text. string_bytes text ≡ lines_of_reason line
+        names.entry.publisher.now names.entry.subscriber.now reason moment) }
 {
-    let mut text = reason_line(alloc, line, reason)?;
+    let mut text = reason_line(alloc, line.leg, names, reason)?;
     push_report(alloc, &mut text, line, reason.report(), moment)?;
     Ok(text)
 }
@@ -47,10 +49,16 @@ fn push_report(
 }
 
 /// The line of a leg.
-fn reason_line(alloc: Global, line: LegLine, reason: Reason) -> Result<String, AllocError>
-    ensures { IfOk result (λ text. string_bytes text ≡ line_of_reason line reason) }
+fn reason_line(
+    alloc: Global,
+    leg: u16,
+    names: LegNames<'_>,
+    reason: Reason,
+) -> Result<String, AllocError>
+    ensures { IfOk result (λ text. string_bytes text ≡ line_of_reason leg
+        names.entry.publisher.now names.entry.subscriber.now reason) }
 {
-    let mut text = leg_words(alloc, line)?;
+    let mut text = leg_words(alloc, leg, names.publisher, names.subscriber)?;
     text.push_str(opening_words(reason))?;
     push_detail(&mut text, reason)?;
     text.push_str("\n")?;
@@ -58,13 +66,16 @@ fn reason_line(alloc: Global, line: LegLine, reason: Reason) -> Result<String, A
 }
 
 /// Which leg it is.
-fn leg_words(alloc: Global, line: LegLine) -> Result<String, AllocError>
-    ensures { IfOk result (λ text. string_bytes text ≡ leg_words line) }
+fn leg_words(
+    alloc: Global,
+    leg: u16,
+    publisher: &str,
+    subscriber: &str,
+) -> Result<String, AllocError>
+    ensures { IfOk result (λ text. string_bytes text
+        ≡ leg_words leg publisher.now subscriber.now) }
 {
-    format!(in alloc;
-        "leg {} from {} to {}: ",
-        line.leg, line.publisher, line.subscriber
-    )
+    format!(in alloc; "leg {leg} from {publisher} to {subscriber}: ")
 }
 
 /// What the reason is.

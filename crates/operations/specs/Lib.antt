@@ -1,1 +1,3 @@
+pub mod ClockRates
 pub mod Records
+pub mod UnitInfo

@@ -2,9 +2,10 @@
 
 ghost use Rattle.std.specs.Prelude.{IfOk, IsSome};
 
-use crate::record_file::idle_record;
+use crate::record_file::{idle_record, unix_ms};
 use crate::run_status::RunStatus;
 use crate::steering::{EndpointInfo, Steering};
+use crate::unit_info::unit_info;
 use addresses::{Location, ServedSettings};
 use recording::ControlFault;
 use settings::Settings;
@@ -41,8 +42,12 @@ pub fn open_control<R: AllocGlobal + Files + Net + Threads + time::Clock>(
     let Ok(legs) = legs_of(rt.alloc(), &file.settings) else {
         return Err(ControlFault::NoMemory);
     };
+    let (texts, began_ms) = (file.texts.as_slice(), unix_ms(rt));
+    let Ok(unit) = unit_info(rt.alloc(), texts, legs.as_slice(), began_ms) else {
+        return Err(ControlFault::NoMemory);
+    };
     let recorder = idle_record(rt, digest, first)?;
-    match Steering::new(rt.alloc(), listener, legs, endpoints) {
+    match Steering::new(rt.alloc(), listener, legs, endpoints, unit) {
         Ok(steering) => Ok(RunStatus::steered(steering, recorder)),
         Err(_) => Err(ControlFault::NoMemory),
     }

@@ -1,17 +1,19 @@
 //! Who looks at a unit that runs, steers it and records it.
 //!
 //! Read `run_status` first, what a run shows, and what peers want of it. `control_socket` is where a unit is steered, `steering` who does that,
-//! `steered` how they see the room, `metrics_answer` and `report_answers` texts of answers. `following` is who is told what happens, `diagnosing`
-//! what is known of why nothing comes on a leg (`diagnosis`). `record_file` opens what a record of the unit goes to (`recording`). `number_keeper`
-//! notes with which numbers legs begin after the next start (`leg_numbers`). `status_lines` are the lines of counts and of the control, and `lines`
-//! are written by a thread for which nobody waits, after the time of day (`wall_time`).
+//! `steered` how they see the room, `report_answers` texts of answers, `metrics_text` the unit's metrics. `unit_info` is what endpoints are
+//! called, with the clocks of what they send (`clock_rate`). `following` is who is told what happens, `diagnosing` what is known of why nothing
+//! comes on a leg (`diagnosis`). `record_file` opens what a record of the unit goes to (`recording`). `number_keeper` notes with which numbers
+//! legs begin after the next start (`leg_numbers`). `status_lines` are the lines of counts and of the control, and `lines` are written by a thread
+//! for which nobody waits, after the time of day (`wall_time`).
 #![tactic(auto)]
 
+mod clock_rate;
 mod control_socket;
 mod diagnosing;
 mod following;
 mod lines;
-mod metrics_answer;
+mod metrics_text;
 mod number_keeper;
 mod record_file;
 mod replaced_file;
@@ -20,6 +22,7 @@ mod run_status;
 mod status_lines;
 mod steered;
 mod steering;
+mod unit_info;
 mod wall_time;
 
 pub use control_socket::{close_control, open_control};
@@ -35,4 +38,5 @@ pub use run_status::RunStatus;
 pub use status_lines::{ControlLines, StatusLines};
 pub use steered::SteeredWatch;
 pub use steering::{EndpointInfo, Steering};
+pub use unit_info::UnitInfo;
 pub use wall_time::time_text;

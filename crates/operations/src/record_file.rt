@@ -29,8 +29,8 @@ const BLOCKS: usize = 256;
 /// Where a record goes that a peer asked for, as people are told: who asks makes the file.
 const PEER: &str = "peer";
 
-/// The version of the program that a record names.
-const VERSION: &str = "1.0.0";
+/// The version of the program that records and metrics name.
+pub(crate) const VERSION: &str = "1.0.0";
 
 /// A file that was made, and its path.
 #[derive(Drop)]
@@ -178,7 +178,7 @@ pub fn close_record<R: Threads>(rt: &R, run_status: RunStatus) {
 }
 
 /// What the wall clock says, in milliseconds since the beginning of 1970; 0 if it says nothing, or an earlier time.
-fn unix_ms<R: time::Clock>(rt: &R) -> u64 {
+pub(crate) fn unix_ms<R: time::Clock>(rt: &R) -> u64 {
     let Ok(now) = SystemTime::now(rt) else {
         return 0;
     };

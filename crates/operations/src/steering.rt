@@ -7,14 +7,15 @@ mod showing;
 use crate::diagnosing::Diagnosing;
 use crate::following::Following;
 use crate::report_answers::strangers_text;
+use crate::unit_info::UnitInfo;
 use addresses::Strangers;
 use control_protocol::{
     Peers, RecordKind, Records, Refused, RequestAction, SHORTAGE_EACH_MS, TAKEN_IN, UnitState,
     action_for, done_text, refused_text, says_shortage,
 };
-use ports::{Look, Received, Ticks};
+use ports::{Look, Received, Status, Ticks};
 use recording::{Recorder, Switched};
-use stats::{LegLine, Traffic};
+use stats::{LegLine, LegState, Traffic};
 use std::alloc::{AllocError, Global};
 use std::net::SocketAddr;
 use std::os::unix::net::{UnixListener, UnixStream};
@@ -42,6 +43,7 @@ pub struct Steering {
     /// Whether each leg was selected at the start.
     began_on: Vec<bool>,
     endpoints: Vec<EndpointInfo>,
+    unit: UnitInfo,
     /// The moment from which on peers are looked at next.
     due_ms: u64,
     /// When it was said last that no descriptor is left for who connects.
@@ -52,6 +54,9 @@ pub struct Steering {
     lines: Option<String>,
     /// Which endpoints are present, by their numbers, as far as that was shown since it was asked.
     present: Vec<bool>,
+    /// The totals, and what legs are like, as far as that was shown since metrics were asked for.
+    status: Option<Status>,
+    states: Vec<LegState>,
     /// Who came last of those who are nobody.
     strangers: Strangers,
     /// How many datagrams of each endpoint came beyond the limit, by its number.
@@ -82,6 +87,8 @@ enum OpenQuestion {
     Look(Look),
     Legs,
     Metrics,
+    /// Metrics, for which totals and endpoints were shown, and legs weren't.
+    LegMetrics,
     Reports,
     Refusals,
     /// Why the subscriber of this leg sees nothing, or of each.
@@ -104,9 +111,11 @@ impl Steering {
         listener: UnixListener,
         legs: Vec<LegLine>,
         endpoints: Vec<EndpointInfo>,
+        unit: UnitInfo,
     ) -> Result<Steering, AllocError>
         ensures legs { IfOk result (λ s. s.legs ≡ legs) }
         ensures endpoints { IfOk result (λ s. s.endpoints ≡ endpoints) }
+        ensures unit { IfOk result (λ s. s.unit ≡ unit) }
         ensures began { IfOk result (λ s. s.began_on.items ≡ map (λ line. line.on) legs.items) }
         ensures idle { IfOk result
             (λ s. (s.due_ms ≡ 0) × (s.asked ≡ Nothing) × (s.lines ≡ None)) }
@@ -124,11 +133,14 @@ impl Steering {
             legs,
             began_on,
             endpoints,
+            unit,
             due_ms: 0,
             said: Ticks::new(SHORTAGE_EACH_MS),
             asked: OpenQuestion::Nothing,
             lines: None,
             present: Vec::new(alloc),
+            status: None,
+            states: Vec::new(alloc),
             strangers: Strangers::new(alloc),
             flooded,
             diagnosing,
@@ -252,6 +264,8 @@ impl Steering {
         self.asked = asked;
         self.lines = Some(String::new(self.alloc));
         self.present.clear();
+        self.status = None;
+        self.states.clear();
     }
 
     /// One more line of the answer, or more.

@@ -17,4 +17,4 @@ pub use entry::{Claim, Entry, MAX_LINES, Reading, read_line};
 pub use fault::LineFault;
 pub use meter::{Meter, line_count};
 pub use text::{announced_line, answer_text, bound_text, desk_text, refused_text};
-pub use words::{is_word, number_u16, number_u64, word_at, words_of};
+pub use words::{is_word, number_u16, number_u32, number_u64, word_at, words_of};

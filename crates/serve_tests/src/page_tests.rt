@@ -6,15 +6,17 @@ use std::test::Fail;
 use web::{AnnouncedSet, Kind, Said, Verdict, answer_to, asked_for, is_known_host};
 
 const METRICS: &[u8] = b"# TYPE sfu_received_bytes_total counter\n\
-    sfu_received_bytes_total{endpoint=\"0\"} 1000\nsfu_sent_bytes_total{endpoint=\"0\"} 0\n\
+    sfu_received_bytes_total{endpoint=\"0\",name=\"a\\\"}\"} 1000\nsfu_sent_bytes_total{endpoint=\"0\",name=\"a\\\"}\"} 0\n\
     sfu_received_bytes_total{endpoint=\"1\"} 20\n";
 
-const PRESENT: &[u8] = b"0 ssrc 16 at 127.0.0.1:5004 present heard 340 ms ago refused 17\n\
-    1 ssrc 4294967295 at [2001:db8::7]:6000 absent never heard refused 4\n\
-    2 ssrc 18 at 127.0.0.1:5006 absent never heard\n\
+const PRESENT: &[u8] =
+    b"0 ssrc 16 at 127.0.0.1:5004 present heard 340 ms ago refused 17 name a\"}\n\
+    1 ssrc 4294967295 at [2001:db8::7]:6000 absent never heard refused 4 receive_only under ssrc 5 name name\n\
+    2 ssrc 18 at 127.0.0.1:5006 absent never heard name \x07\n\
     3 ssrc 19 at 127.0.0.1:5008 absent never heard\n";
 
-const LEGS: &[u8] = b"0 from 0 to 1 on stay 9 packets 7 octets 700 resent 2 missed 3 next 4\n\
+const LEGS: &[u8] =
+    b"0 from 0 to 1 on stay 9 packets 7 octets 700 resent 2 missed 3 next 4 skipped 5 publisher a\"} subscriber name\n\
     1 from 1 to 0 off stay none packets 0 octets 0 resent 0 missed 0 next none\n";
 
 const COUNTS: &[u8] = b"present 1 heard 2 sent 3 failed 4 lost 5 dropped 6 strangers 7 unread 8\n";
@@ -162,17 +164,17 @@ const PATHS: [(&[u8], &[u8], (u16, &str)); 8] = [
 
 /// What the unit said for `metrics`, as it is.
 const COUNTED: &str = "metrics # TYPE sfu_received_bytes_total counter\n\
-    sfu_received_bytes_total{endpoint=\"0\"} 1000\nsfu_sent_bytes_total{endpoint=\"0\"} 0\n\
+    sfu_received_bytes_total{endpoint=\"0\",name=\"a\\\"}\"} 1000\nsfu_sent_bytes_total{endpoint=\"0\",name=\"a\\\"}\"} 0\n\
     sfu_received_bytes_total{endpoint=\"1\"} 20\n";
 
 const STATE: &str = "json {\"moment_ms\":4000,\"endpoints\":[\
-    {\"number\":0,\"ssrc\":16,\"address\":\"127.0.0.1:5004\",\"present\":true,\"heard_ago_ms\":340,\"refused\":17,\"heard_octets\":1000,\"sent_octets\":0,\"fraction_lost\":null,\"jitter\":null,\"reported_ago_ms\":null},\
-    {\"number\":1,\"ssrc\":4294967295,\"address\":\"[2001:db8::7]:6000\",\"present\":false,\"heard_ago_ms\":null,\"refused\":4,\"heard_octets\":20,\"sent_octets\":null,\"fraction_lost\":1,\"jitter\":7,\"reported_ago_ms\":900},\
-    {\"number\":2,\"ssrc\":18,\"address\":\"127.0.0.1:5006\",\"present\":false,\"heard_ago_ms\":null,\"refused\":null,\"heard_octets\":null,\"sent_octets\":null,\"fraction_lost\":null,\"jitter\":null,\"reported_ago_ms\":null},\
-    {\"number\":3,\"ssrc\":19,\"address\":\"127.0.0.1:5008\",\"present\":false,\"heard_ago_ms\":null,\"refused\":null,\"heard_octets\":null,\"sent_octets\":null,\"fraction_lost\":null,\"jitter\":null,\"reported_ago_ms\":null}],\
+    {\"number\":0,\"ssrc\":16,\"address\":\"127.0.0.1:5004\",\"present\":true,\"heard_ago_ms\":340,\"name\":\"a\\\"}\",\"refused\":17,\"heard_octets\":1000,\"sent_octets\":0,\"fraction_lost\":null,\"jitter\":null,\"reported_ago_ms\":null},\
+    {\"number\":1,\"ssrc\":4294967295,\"address\":\"[2001:db8::7]:6000\",\"present\":false,\"heard_ago_ms\":null,\"name\":\"name\",\"refused\":4,\"heard_octets\":20,\"sent_octets\":null,\"fraction_lost\":1,\"jitter\":7,\"reported_ago_ms\":900},\
+    {\"number\":2,\"ssrc\":18,\"address\":\"127.0.0.1:5006\",\"present\":false,\"heard_ago_ms\":null,\"name\":null,\"refused\":null,\"heard_octets\":null,\"sent_octets\":null,\"fraction_lost\":null,\"jitter\":null,\"reported_ago_ms\":null},\
+    {\"number\":3,\"ssrc\":19,\"address\":\"127.0.0.1:5008\",\"present\":false,\"heard_ago_ms\":null,\"name\":null,\"refused\":null,\"heard_octets\":null,\"sent_octets\":null,\"fraction_lost\":null,\"jitter\":null,\"reported_ago_ms\":null}],\
     \"legs\":[\
-    {\"leg\":0,\"publisher\":0,\"subscriber\":1,\"on\":true,\"stay\":9,\"packets\":7,\"octets\":700,\"resent\":2,\"missed\":3,\"next\":4,\"fraction_lost\":64,\"jitter\":90,\"round_trip_ms\":45,\"reported_ago_ms\":1200},\
-    {\"leg\":1,\"publisher\":1,\"subscriber\":0,\"on\":false,\"stay\":null,\"packets\":0,\"octets\":0,\"resent\":0,\"missed\":0,\"next\":null,\"fraction_lost\":null,\"jitter\":null,\"round_trip_ms\":null,\"reported_ago_ms\":null}],\
+    {\"leg\":0,\"publisher\":0,\"subscriber\":1,\"on\":true,\"stay\":9,\"publisher_name\":\"a\\\"}\",\"subscriber_name\":\"name\",\"packets\":7,\"octets\":700,\"resent\":2,\"missed\":3,\"next\":4,\"fraction_lost\":64,\"jitter\":90,\"round_trip_ms\":45,\"reported_ago_ms\":1200},\
+    {\"leg\":1,\"publisher\":1,\"subscriber\":0,\"on\":false,\"stay\":null,\"publisher_name\":null,\"subscriber_name\":null,\"packets\":0,\"octets\":0,\"resent\":0,\"missed\":0,\"next\":null,\"fraction_lost\":null,\"jitter\":null,\"round_trip_ms\":null,\"reported_ago_ms\":null}],\
     \"counts\":{\"present\":1,\"heard\":2,\"sent\":3,\"failed\":4,\"lost\":5,\"dropped\":6,\"strangers\":7,\"unread\":8}}";
 
 fn tells_all(rt: &(impl AllocGlobal + Abort), said: &Option<Said>) -> Result<(), Fail> {

@@ -7,8 +7,11 @@ use events::{DeskRefusal, Refusal};
 use rtcp_compound::{Block, RtcpFault, write_rr, write_sr};
 use rtp_packet::RtpFault;
 use settings::RoomFault;
-use stats::{NumberedReport, ReceptionReport, Traffic, push_refusal_figures, push_refusal_lines};
-use std::alloc::Global;
+use stats::{
+    NumberedReport, ReceptionReport, Subject, Traffic, endpoint_labels, push_refusal_figures,
+    push_refusal_lines,
+};
+use std::alloc::{AllocError, Global};
 use std::process::Abort;
 use std::test::Fail;
 use tmmbr_tuple::Ssrc;
@@ -216,13 +219,28 @@ const TOLD: &str =
 
 /// and as a metric.
 const MEASURED: &str =
-    "# HELP sfu_refused_total What was refused of what came from the endpoint.\n# TYPE sfu_refused_total counter\nsfu_refused_total{endpoint=\"0\",kind=\"room\",reason=\"3\"} 1\nsfu_refused_total{endpoint=\"2\",kind=\"rtp\",reason=\"2\"} 2\nsfu_refused_total{endpoint=\"2\",kind=\"rtcp\",reason=\"2\"} 1\nsfu_refused_total{endpoint=\"2\",kind=\"rtcp\",reason=\"7\"} 1\nsfu_refused_total{endpoint=\"none\",kind=\"desk\",reason=\"4\"} 1\n";
+    "# HELP sfu_refused_total What was refused of what came from the endpoint.\n# TYPE sfu_refused_total counter\nsfu_refused_total{endpoint=\"0\",name=\"ann\",kind=\"room\",reason=\"3\"} 1\nsfu_refused_total{endpoint=\"2\",name=\"c\\\\\\\"@2\",kind=\"rtp\",reason=\"2\"} 2\nsfu_refused_total{endpoint=\"2\",name=\"c\\\\\\\"@2\",kind=\"rtcp\",reason=\"2\"} 1\nsfu_refused_total{endpoint=\"2\",name=\"c\\\\\\\"@2\",kind=\"rtcp\",reason=\"7\"} 1\nsfu_refused_total{endpoint=\"none\",kind=\"desk\",reason=\"4\"} 1\n";
 
 /// All of it is refused.
 fn refuse_all(traffic: &Traffic) {
     for (endpoint, refusal) in REFUSED {
         traffic.refused(endpoint, refusal);
     }
+}
+
+/// What the endpoints are called.
+const NAMES: [(u16, &str); 3] = [(0, "ann"), (1, "1"), (2, "c\\\"@2")];
+
+/// Of whom the metric is.
+fn subjects_of(alloc: Global) -> Result<Vec<Subject>, AllocError> {
+    let mut all = Vec::new(alloc);
+    for (endpoint, name) in NAMES {
+        all.push(Subject {
+            labels: endpoint_labels(alloc, endpoint, name)?,
+            clock_rate: None,
+        })?;
+    }
+    Ok(all)
 }
 
 /// The lines about it, and the metric.
@@ -234,7 +252,8 @@ fn push_told(
 ) -> Result<(), Fail> {
     let counts = traffic.refusals(alloc)?;
     push_refusal_lines(lines, counts.as_slice())?;
-    push_refusal_figures(figures, counts.as_slice())?;
+    let subjects = subjects_of(alloc)?;
+    push_refusal_figures(figures, subjects.as_slice(), counts.as_slice())?;
     Ok(())
 }
 

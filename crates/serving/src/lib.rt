@@ -18,8 +18,8 @@ pub use addresses::{
 };
 pub use operations::{
     ControlFault, EndpointInfo, ErrorOutput, NumberKeeper, NumbersFault, RECORD_LIMIT, RecordFault,
-    Recorder, RunStatus, Steering, close_control, close_record, open_control, open_next_record,
-    open_numbers, open_record,
+    Recorder, RunStatus, Steering, UnitInfo, close_control, close_record, open_control,
+    open_next_record, open_numbers, open_record,
 };
 pub use running::run_on;
 pub use serve::{Term, serve_file, serve_on, serve_socket, serve_watched};

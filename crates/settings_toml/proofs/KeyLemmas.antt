@@ -92,10 +92,10 @@ top_keys = record { taken = λ key. taken_in takes_top top_rows key each_top; to
 
 no_endpoint : (key : List ℕ) (value : Data) → Misses endpoint_rows key → takes_endpoint key value ≡ false
 no_endpoint key value m =
-    simp (m.0, m.1.0, m.1.1.0, m.1.1.1.0, m.1.1.1.1.0, m.1.1.1.1.1.0, m.1.1.1.1.1.1.0, m.1.1.1.1.1.1.1.0) refl
+    simp (m.0, m.1.0, m.1.1.0, m.1.1.1.0, m.1.1.1.1.0, m.1.1.1.1.1.0, m.1.1.1.1.1.1.0, m.1.1.1.1.1.1.1.0, m.1.1.1.1.1.1.1.1.0) refl
 
 each_endpoint : EachTaken takes_endpoint endpoint_rows
-each_endpoint = ((string [], refl), ((string [], refl), ((array no_items, refl), ((string [], refl), ((boolean true, refl), ((string [], refl), ((array no_items, refl), ((string [], refl), tt))))))))
+each_endpoint = ((string [], refl), ((string [], refl), ((array no_items, refl), ((string [], refl), ((string (97 ∷ []), refl), ((boolean true, refl), ((string [], refl), ((array no_items, refl), ((string [], refl), tt)))))))))
 
 pub endpoint_keys : AreTheKeys takes_endpoint endpoint_rows
 endpoint_keys = record { taken = λ key. taken_in takes_endpoint endpoint_rows key each_endpoint; told = told_in takes_endpoint endpoint_rows no_endpoint }

@@ -1,5 +1,6 @@
 -- Where the first fault of a settings file stands.
-use Rattle.std.specs.Prelude.{◌≡◌, ◌==◌, ◌&&◌, ◌||◌, ℕ, ◌+◌, nat_lt, Bool, true, false, List, [], ◌∷◌, Option, None, Some, is_some, option_map, codes, string_bytes, Result, Ok, Err, if◌then◌else◌}
+use Rattle.std.specs.Prelude.{◌≡◌, ◌==◌, ◌&&◌, ◌||◌, ℕ, ◌+◌, nat_le, nat_lt, not, Bool, true, false, List, [], ◌∷◌, length, Option, None, Some, is_some, option_map, codes, string_bytes, Result, Ok, Err, if◌then◌else◌}
+use Rattle.std.specs.Char.{is_ascii_alphanumeric}
 use Rattle.std.specs.Cmp.Lexicographic.{slice_cmp}
 use Rattle.std.specs.List.{list_all}
 use Rattle.std.specs.Ordering.{is_lt, nat_cmp}
@@ -13,13 +14,14 @@ use Rattle.settings.specs.declared.parts.Parts.{Parts}
 use Rattle.settings.specs.Fault.{key_name}
 use Rattle.settings.specs.Settings.{additions_of, checks, first_fault, number_below, number_within}
 use Rattle.settings_toml.specs.declared.bound_keys.TheConstants.{ENTRIES, FLOODS, GAPS_MS, SHARES}
+use Rattle.settings_toml.specs.declared.name_key.TheConstants.{MOST_NAME}
 use Rattle.settings_toml.specs.declared.tick_key.TheConstants.{MOST_TICK_MS}
 use Rattle.settings_toml.specs.declared.settings_file.FileSettings.{FileSettings}
 use Rattle.settings_toml.specs.declared.settings_file.SettingsProblem.{SettingsProblem}
 use Rattle.settings_toml.specs.declared.settings_file.SettingsProblem.TheVariants.{NoMemory, File, Toml, Top, Endpoint, Leg, SameSsrc}
 use Rattle.settings_toml.specs.declared.settings_keys.Place.{Place}
 use Rattle.settings_toml.specs.declared.settings_keys.Place.TheVariants as place
-use Rattle.settings_toml.specs.SettingsFile.{AreExtrasOf, ArePartsOf, HoldsSettings, items_in, list_of, repeat_of, stall_of}
+use Rattle.settings_toml.specs.SettingsFile.{AreExtrasOf, ArePartsOf, HoldsSettings, items_in, list_of, repeat_of, stall_of, text_of}
 
 -- where a fault stands: a key of the settings, of an endpoint or of a leg; or the sources together
 pub data Spot : Type 0 where
@@ -87,6 +89,18 @@ is_stall value = is_some (stall_of (as_integer value))
 abbrev pub is_tick : Data → Bool
 is_tick value = is_some (number_within (as_integer value) 1 MOST_TICK_MS)
 
+-- a letter or a digit of ASCII, a dot, a hyphen or an underscore: each is itself in a label, a line and a page
+abbrev pub is_name_byte : ℕ → Bool
+is_name_byte b = is_ascii_alphanumeric b || (b == 46) || (b == 45) || (b == 95)
+
+-- a name has one to so many of these
+abbrev pub is_name_text : List ℕ → Bool
+is_name_text text =
+    not (length text == 0) && nat_le (length text) MOST_NAME && list_all is_name_byte text
+
+abbrev pub holds_name : Data → Bool
+holds_name value = is_name_text (text_of value)
+
 -- a list of such values
 abbrev pub has_all : (Data → Bool) → Data → Bool
 has_all is_such (array items) = list_all is_such (list_of items)
@@ -133,6 +147,7 @@ takes_endpoint key value =
     || bytes_eq key (codes "learn_from")
     then is_some (as_str value)
     else if bytes_eq key (codes "fmtp") || bytes_eq key (codes "rtpmap") then has_texts value
+    else if bytes_eq key (codes "name") then holds_name value
     else if bytes_eq key (codes "receive_only") then is_some (as_bool value)
     else if bytes_eq key (codes "rtcp_address") then is_some (as_str value)
     else bytes_eq key (codes "ssrc")

@@ -43,9 +43,11 @@ texts_of items = map text_of items
 abbrev pub texts_in : Option Data → List (List ℕ)
 texts_in value = texts_of (items_in value)
 
--- what an endpoint's table says of its client: the texts of its addresses and of the network that they are learned from, whether it
--- only listens, and what it publishes
+-- what an endpoint's table says of its client: what it is called, the texts of its addresses and of the network that they are learned from,
+-- whether it only listens, and what it publishes
 pub record ClientSays : Type 0 where
+  pub name : Option (List ℕ)
+  pub cname : Option (List ℕ)
   pub address : Option (List ℕ)
   pub learn_from : Option (List ℕ)
   pub rtcp_address : Option (List ℕ)
@@ -55,6 +57,8 @@ pub record ClientSays : Type 0 where
 
 abbrev pub client_in : Data → ClientSays
 client_in endpoint = record {
+  name = text_in (get (codes "name") endpoint);
+  cname = text_in (get (codes "cname") endpoint);
   address = text_in (get (codes "address") endpoint);
   learn_from = text_in (get (codes "learn_from") endpoint);
   rtcp_address = text_in (get (codes "rtcp_address") endpoint);
@@ -84,6 +88,8 @@ cname_in endpoint = text_in (get (codes "cname") endpoint)
 
 abbrev pub client_says : ClientText → ClientSays
 client_says client = record {
+  name = text_bytes client.name;
+  cname = text_bytes client.cname;
   address = text_bytes client.address;
   learn_from = text_bytes client.learn_from;
   rtcp_address = text_bytes client.rtcp_address;

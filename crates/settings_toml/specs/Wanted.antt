@@ -8,11 +8,12 @@ use Rattle.rtcp_compound.specs.declared.writer.TheConstants.{CNAME_LIMIT}
 use Rattle.settings.specs.declared.limits.TheConstants.{LEAST_HISTORY, MAX_ENDPOINTS, MAX_HISTORY, MAX_LEGS, MAX_PERIOD_MS, MAX_RING, MAX_WORKERS, SSRCS}
 use Rattle.settings_toml.specs.SettingsFaults.{Spot, endpoint, leg, sources, top}
 use Rattle.settings_toml.specs.declared.bound_keys.TheConstants.{ENTRIES, FLOODS, GAPS_MS, LEAST_REPEAT_MS, LEAST_STALL_MS, REPEATS_MS, SHARES, STALLS_MS}
+use Rattle.settings_toml.specs.declared.name_key.TheConstants.{MOST_NAME}
 use Rattle.settings_toml.specs.declared.tick_key.TheConstants.{MOST_TICK_MS}
 use Rattle.settings_toml.specs.declared.wanted.Kind.{Kind}
 use Rattle.settings_toml.specs.declared.wanted.Kind.TheVariants as kind
 use Rattle.settings_toml.specs.declared.wanted.Wanted.{Wanted}
-use Rattle.settings_toml.specs.declared.wanted.Wanted.TheVariants.{Whole, WholeOrZero, Name, Endpoints, Legs, Other}
+use Rattle.settings_toml.specs.declared.wanted.Wanted.TheVariants.{Whole, WholeOrZero, Name, Label, Endpoints, Legs, Other}
 
 -- a key, and what it takes
 pub record KeyRow : Type 0 where
@@ -65,6 +66,7 @@ endpoint_rows =
     ∷ key_row (codes "cname") (Name CNAME_LIMIT)
     ∷ key_row (codes "fmtp") (Other kind.Formats)
     ∷ key_row (codes "learn_from") (Other kind.Network)
+    ∷ key_row (codes "name") (Label MOST_NAME)
     ∷ key_row (codes "receive_only") (Other kind.ReceiveOnly)
     ∷ key_row (codes "rtcp_address") (Other kind.RtcpAddress)
     ∷ key_row (codes "rtpmap") (Other kind.Encodings)
@@ -128,6 +130,9 @@ wanted_words (WholeOrZero least most) =
     codes "whole number from " ++ (decimal least ++ (codes " to " ++ (decimal most ++ codes ", nor 0")))
 wanted_words (Name most) =
     codes "text of 1 to " ++ (decimal most ++ codes " ASCII characters, as \"sfu@192.0.2.1\"")
+wanted_words (Label most) =
+    codes "text of 1 to "
+    ++ (decimal most ++ codes " letters, digits, dots, hyphens and underscores, as \"ann-camera\"")
 wanted_words (Endpoints most) =
     codes "list of 1 to " ++ (decimal most ++ codes " tables, each under [[endpoint]]")
 wanted_words (Legs most) =

@@ -3,13 +3,13 @@
 ghost use Rattle.std.specs.Prelude.{◌≡◌, ◌⊎◌, IfOk, Some, codes, map, option_map, string_bytes};
 ghost use Rattle.toml.specs.Data.{get_member};
 ghost use Rattle.toml.specs.View.{table_view, view};
-ghost use Rattle.settings_toml.specs.SettingsFile.{AreExtrasOf, ArePartsOf, bool_in, bounds_in, client_in, client_says, cname_in, integer_in, items_in, leg_in, ssrc_in, text_bytes, tick_in, text_in, text_of, texts_in, texts_of};
+ghost use Rattle.settings_toml.specs.SettingsFile.{AreExtrasOf, ArePartsOf, bool_in, bounds_in, client_in, client_says, cname_in, integer_in, items_in, leg_in, ssrc_in, text_bytes, tick_in, text_in, texts_in, texts_of};
 ghost use Rattle.settings_toml.specs.SettingsFaults.{TableGives, TextGives, earlier, fault_spot, problem_spot, spot_of};
 
 use crate::bound_keys::{BoundKeys, bounds_at};
 use crate::settings_keys::{Place, first_misfit, items_at, items_in};
 use crate::tick_key::tick_at;
-use crate::values::{bool_at, bool_in, integer_at, integer_in, text_in, value_at};
+use crate::values::{bool_at, bool_in, integer_at, integer_in, text_in, text_of, value_at};
 use settings::{Extras, LegParts, Parts, Settings, SettingsFault};
 use std::alloc::{AllocError, Global};
 use toml::{Table, Value};
@@ -38,6 +38,10 @@ pub struct FileSettings {
 /// What a settings file says of the client that an endpoint is.
 #[derive(Drop)]
 pub struct ClientText {
+    /// What people call it.
+    pub name: Option<String>,
+    /// The canonical name of what it publishes, if it has one of its own (RFC 3550, section 6.5.1).
+    pub cname: Option<String>,
     /// Where its datagrams come from and go to, as the file spells it; or that this is learned.
     pub address: Option<String>,
     /// The network from which an address may be learned, as the file spells it.
@@ -282,6 +286,8 @@ fn client_in(alloc: Global, endpoint: &Value) -> Result<ClientText, AllocError>
     ensures { IfOk result (λ c. client_says c ≡ client_in (view endpoint.now)) }
 {
     Ok(ClientText {
+        name: text_in(alloc, endpoint.get("name"))?,
+        cname: text_in(alloc, endpoint.get("cname"))?,
         address: text_in(alloc, endpoint.get("address"))?,
         learn_from: text_in(alloc, endpoint.get("learn_from"))?,
         rtcp_address: text_in(alloc, endpoint.get("rtcp_address"))?,
@@ -311,14 +317,4 @@ fn texts_of(alloc: Global, items: &[Value]) -> Result<Vec<String>, AllocError>
         texts.push(String::from_str(alloc, text_of(item))?)?;
     }
     Ok(texts)
-}
-
-/// The text that an item is; nothing if it is none.
-fn text_of(item: &Value) -> &str
-    ensures { result.now ≡ text_of (view item.now) }
-{
-    match item.as_str() {
-        Some(text) => text,
-        None => "",
-    }
 }

@@ -9,6 +9,7 @@ ghost use Rattle.settings_toml.specs.SettingsFaults.{endpoint, has_tables, has_t
 ghost use Rattle.settings_toml.specs.SettingsFile.{items_in};
 
 use crate::bound_keys::{ENTRIES, FLOODS, GAPS_MS, SHARES, is_repeat, is_stall, is_under};
+use crate::name_key::holds_name;
 use crate::tick_key::is_tick;
 use toml::{Table, Value};
 
@@ -192,6 +193,7 @@ fn takes_endpoint(key: &str, value: &Value) -> bool
     match key {
         "address" | "cname" | "learn_from" => value.is_str(),
         "fmtp" | "rtpmap" => has_texts(value),
+        "name" => holds_name(value),
         "receive_only" => value.is_bool(),
         "rtcp_address" => value.is_str(),
         "ssrc" => true,

@@ -1,7 +1,7 @@
 //! The values of a table, by their keys and kinds.
 
 ghost use Rattle.std.specs.Prelude.{◌≡◌, IfOk, option_map};
-ghost use Rattle.settings_toml.specs.SettingsFile.{bool_in, integer_in, text_bytes, text_in};
+ghost use Rattle.settings_toml.specs.SettingsFile.{bool_in, integer_in, text_bytes, text_in, text_of};
 ghost use Rattle.toml.specs.Data.{get_member};
 ghost use Rattle.toml.specs.View.{table_view, view};
 
@@ -57,6 +57,16 @@ pub(crate) fn text_in(alloc: Global, value: Option<&Value>) -> Result<Option<Str
     match value {
         Some(value) => copied(alloc, value.as_str()),
         None => Ok(None),
+    }
+}
+
+/// The text that an item is; nothing if it is none.
+pub(crate) fn text_of(item: &Value) -> &str
+    ensures { result.now ≡ text_of (view item.now) }
+{
+    match item.as_str() {
+        Some(text) => text,
+        None => "",
     }
 }
 

@@ -39,11 +39,12 @@ pub(crate) const TOP_KEYS: [&str; 25] = [
 ];
 
 /// Those of an endpoint.
-pub(crate) const ENDPOINT_KEYS: [&str; 8] = [
+pub(crate) const ENDPOINT_KEYS: [&str; 9] = [
     "address",
     "cname",
     "fmtp",
     "learn_from",
+    "name",
     "receive_only",
     "rtcp_address",
     "rtpmap",
@@ -62,6 +63,8 @@ pub(crate) enum Wanted {
     WholeOrZero(u64, u64),
     /// A name of one to so many characters.
     Name(u64),
+    /// One of so many characters that labels, lines and pages show as they are.
+    Label(u64),
     /// One to so many tables of endpoints.
     Endpoints(u64),
     /// Up to so many tables of legs.
@@ -150,6 +153,7 @@ fn wanted_endpoint(key: &str) -> Option<Wanted>
         "cname" => Some(Wanted::Name(255)),
         "fmtp" => Some(Wanted::Other(Kind::Formats)),
         "learn_from" => Some(Wanted::Other(Kind::Network)),
+        "name" => Some(Wanted::Label(32)),
         "receive_only" => Some(Wanted::Other(Kind::ReceiveOnly)),
         "rtcp_address" => Some(Wanted::Other(Kind::RtcpAddress)),
         "rtpmap" => Some(Wanted::Other(Kind::Encodings)),
@@ -185,6 +189,12 @@ pub(crate) fn wanted_text(alloc: Global, wanted: Wanted) -> Result<String, Alloc
             "text of 1 to ",
             most,
             " ASCII characters, as \"sfu@192.0.2.1\"",
+        ),
+        Wanted::Label(most) => counted(
+            alloc,
+            "text of 1 to ",
+            most,
+            " letters, digits, dots, hyphens and underscores, as \"ann-camera\"",
         ),
         Wanted::Endpoints(most) => {
             counted(
@@ -240,7 +250,7 @@ pub(crate) fn keys(place: Place<'_>) -> &'static str
 {
     match place {
         Place::Endpoint(_, _) => {
-            "address, cname, fmtp, learn_from, receive_only, rtcp_address, rtpmap and ssrc"
+            "address, cname, fmtp, learn_from, name, receive_only, rtcp_address, rtpmap and ssrc"
         }
         Place::Leg(_, _) => "first_seq, on, out_ssrc, publisher and subscriber",
         Place::Top(_) | Place::Sources => {

@@ -9,6 +9,7 @@ use Rattle.stats.specs.declared.leg_count.LegCount.{LegCount}
 use Rattle.stats.specs.declared.metrics.MetricType.TheVariants.{Counter}
 use Rattle.stats.specs.declared.metrics.Sample.{Sample}
 use Rattle.stats.specs.declared.endpoint_count.EndpointCount.{EndpointCount}
+use Rattle.stats.specs.declared.subjects.Subject.{Subject}
 use Rattle.stats.specs.Metrics.{metric_text}
 
 -- ---- of an endpoint
@@ -77,10 +78,9 @@ endpoint_help endpoint.SentTmmbns = codes "TMMBN packets that were sent to the e
 abbrev pub endpoint_sample : EndpointFigure → Numbered EndpointCount → Sample
 endpoint_sample f n = record { number = n.number; value = endpoint_value f n.count }
 
-abbrev pub endpoint_text : EndpointFigure → List (Numbered EndpointCount) → List ℕ
-endpoint_text f counts =
-    metric_text (endpoint_name f) (endpoint_help f) Counter (codes "endpoint")
-    (map (endpoint_sample f) counts)
+abbrev pub endpoint_text : EndpointFigure → List Subject → List (Numbered EndpointCount) → List ℕ
+endpoint_text f subjects counts =
+    metric_text (endpoint_name f) (endpoint_help f) Counter subjects (map (endpoint_sample f) counts)
 
 -- ---- of a leg
 
@@ -111,14 +111,15 @@ leg_help leg.Skipped = codes "RTP packets that were too old to be sent on on the
 abbrev pub leg_sample : LegFigure → Numbered LegCount → Sample
 leg_sample f n = record { number = n.number; value = leg_value f n.count }
 
-abbrev pub leg_text : LegFigure → List (Numbered LegCount) → List ℕ
-leg_text f counts =
-    metric_text (leg_name f) (leg_help f) Counter (codes "leg") (map (leg_sample f) counts)
+abbrev pub leg_text : LegFigure → List Subject → List (Numbered LegCount) → List ℕ
+leg_text f subjects counts =
+    metric_text (leg_name f) (leg_help f) Counter subjects (map (leg_sample f) counts)
 
 -- ---- all of them
 
 -- each figure of endpoints and of legs as a metric
-abbrev pub figures_text : List (Numbered EndpointCount) → List (Numbered LegCount) → List ℕ
-figures_text endpoints legs =
-    flat_map (λ (f : EndpointFigure). endpoint_text f endpoints) endpoint_figures
-    ++ flat_map (λ (f : LegFigure). leg_text f legs) leg_figures
+abbrev pub figures_text : List Subject → List Subject → List (Numbered EndpointCount) → List (Numbered LegCount)
+    → List ℕ
+figures_text endpoint_subjects leg_subjects endpoints legs =
+    flat_map (λ (f : EndpointFigure). endpoint_text f endpoint_subjects endpoints) endpoint_figures
+    ++ flat_map (λ (f : LegFigure). leg_text f leg_subjects legs) leg_figures

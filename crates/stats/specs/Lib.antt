@@ -1,9 +1,13 @@
 pub mod LegCounts
+pub mod Labels
 pub mod Lines
+pub mod Subjects
 pub mod Metrics
 pub mod Figures
+pub mod LegStates
 pub mod Reports
 pub mod ReportLines
 pub mod ReportFigures
 pub mod Refusals
 pub mod RefusalNews
+pub mod UnitFigures

@@ -33,8 +33,14 @@ flow_part c =
     ++ (codes " resent " ++ (decimal c.resent
     ++ (codes " missed " ++ (decimal c.missed
     ++ (codes " next " ++ (next_word c.next
-    ++ (codes " skipped " ++ (decimal c.skipped ++ codes "\n")))))))))))
+    ++ (codes " skipped " ++ decimal c.skipped))))))))))
 
--- the line of a leg: which it is, its stay, and what went out on it
-abbrev pub line_of_leg : LegLine → Option ℕ → LegCount → List ℕ
-line_of_leg l stay c = ends_part l ++ (stay_part stay ++ flow_part c)
+-- what its ends are called
+abbrev pub called_part : List ℕ → List ℕ → List ℕ
+called_part publisher subscriber =
+    codes " publisher " ++ (publisher ++ (codes " subscriber " ++ (subscriber ++ codes "\n")))
+
+-- the line of a leg between endpoints that are called so: which it is, its stay, what went out on it, and these names
+abbrev pub line_of_leg : LegLine → List ℕ → List ℕ → Option ℕ → LegCount → List ℕ
+line_of_leg l publisher subscriber stay c =
+    ends_part l ++ (stay_part stay ++ (flow_part c ++ called_part publisher subscriber))

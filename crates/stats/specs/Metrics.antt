@@ -4,6 +4,8 @@ use Rattle.std.specs.Fmt.{decimal}
 use Rattle.stats.specs.declared.metrics.MetricType.{MetricType}
 use Rattle.stats.specs.declared.metrics.Sample.{Sample}
 use Rattle.stats.specs.declared.metrics.MetricType.TheVariants.{Counter, Gauge}
+use Rattle.stats.specs.declared.subjects.Subject.{Subject}
+use Rattle.stats.specs.Subjects.{labels_at}
 
 abbrev pub type_word : MetricType → List ℕ
 type_word Counter = codes "counter"
@@ -15,14 +17,15 @@ help_line name help = codes "# HELP " ++ (name ++ (codes " " ++ (help ++ codes "
 abbrev pub type_line : List ℕ → MetricType → List ℕ
 type_line name kind = codes "# TYPE " ++ (name ++ (codes " " ++ (type_word kind ++ codes "\n")))
 
+abbrev pub value_line : List ℕ → List ℕ → ℕ → List ℕ
+value_line name labels value =
+    name ++ (codes "{" ++ (labels ++ (codes "} " ++ (decimal value ++ codes "\n"))))
+
 -- the value of one endpoint, or of one leg
-abbrev pub sample_line : List ℕ → List ℕ → Sample → List ℕ
-sample_line name label s =
-    name
-    ++ (codes "{" ++ (label ++ (codes "=\"" ++ (decimal s.number
-    ++ (codes "\"} " ++ (decimal s.value ++ codes "\n"))))))
+abbrev pub sample_line : List ℕ → List Subject → Sample → List ℕ
+sample_line name subjects s = value_line name (labels_at subjects s.number) s.value
 
 -- a metric: what it is, its type, and its samples
-abbrev pub metric_text : List ℕ → List ℕ → MetricType → List ℕ → List Sample → List ℕ
-metric_text name help kind label samples =
-    help_line name help ++ (type_line name kind ++ flat_map (sample_line name label) samples)
+abbrev pub metric_text : List ℕ → List ℕ → MetricType → List Subject → List Sample → List ℕ
+metric_text name help kind subjects samples =
+    help_line name help ++ (type_line name kind ++ flat_map (sample_line name subjects) samples)

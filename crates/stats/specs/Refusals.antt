@@ -15,7 +15,9 @@ use Rattle.settings.specs.declared.fault.RoomFault.TheVariants as room
 use Rattle.settings.specs.Fault.{room_fault_number}
 use Rattle.stats.specs.declared.metrics.MetricType.TheVariants.{Counter}
 use Rattle.stats.specs.declared.refusals.RefusedCount.{RefusedCount}
+use Rattle.stats.specs.declared.subjects.Subject.{Subject}
 use Rattle.stats.specs.Metrics.{help_line, type_line}
+use Rattle.stats.specs.Subjects.{labels_at}
 
 -- what refused it
 abbrev pub kind_word : Refusal → List ℕ
@@ -98,17 +100,22 @@ refused_help = codes "What was refused of what came from the endpoint."
 
 abbrev pub reason_labels : Refusal → List ℕ
 reason_labels r =
-    codes "\",kind=\""
+    codes ",kind=\""
     ++ (kind_word r ++ (codes "\",reason=\"" ++ (decimal (reason_number r) ++ codes "\"} ")))
 
-unfoldable pub refused_sample : RefusedCount → List ℕ
-refused_sample c =
-    codes "sfu_refused_total{endpoint=\""
-    ++ (whose_word c.endpoint
+-- the labels of whose datagrams they are
+abbrev pub whose_labels : List Subject → Option ℕ → List ℕ
+whose_labels subjects None = codes "endpoint=\"none\""
+whose_labels subjects (Some endpoint) = labels_at subjects endpoint
+
+unfoldable pub refused_sample : List Subject → RefusedCount → List ℕ
+refused_sample subjects c =
+    codes "sfu_refused_total{"
+    ++ (whose_labels subjects c.endpoint
     ++ (reason_labels c.refusal ++ (decimal c.count ++ codes "\n")))
 
 -- the metric of what was refused
-abbrev pub refused_figures : List RefusedCount → List ℕ
-refused_figures counts =
+abbrev pub refused_figures : List Subject → List RefusedCount → List ℕ
+refused_figures subjects counts =
     help_line refused_name refused_help
-    ++ (type_line refused_name Counter ++ flat_map refused_sample counts)
+    ++ (type_line refused_name Counter ++ flat_map (refused_sample subjects) counts)

@@ -8,6 +8,7 @@ ghost use Rattle.stats.specs.declared.metrics.MetricType.TheVariants.{Counter};
 use crate::endpoint_count::EndpointCount;
 use crate::leg_count::LegCount;
 use crate::metrics::{Metric, MetricType, Sample, push_metric};
+use crate::subjects::{Subject, Subjects};
 use std::alloc::{AllocError, Global};
 
 /// A figure of an endpoint.
@@ -185,14 +186,21 @@ pub struct Numbered<T> {
 pub fn push_figures(
     alloc: Global,
     text: &mut String,
+    subjects: Subjects<'_>,
     endpoints: &[Numbered<EndpointCount>],
     legs: &[Numbered<LegCount>],
 ) -> Result<(), AllocError>
-    ensures { OnOk result (string_bytes text.new
-        ≡ string_bytes text.old ++ figures_text endpoints.now legs.now) }
+    ensures { OnOk result (string_bytes text.new ≡ string_bytes text.old
+        ++ figures_text subjects.entry.endpoints.now subjects.entry.legs.now endpoints.now legs.now) }
 {
-    push_endpoint_figures(alloc, text, &ENDPOINT_FIGURES, endpoints)?;
-    push_leg_figures(alloc, text, &LEG_FIGURES, legs)
+    push_endpoint_figures(
+        alloc,
+        text,
+        &ENDPOINT_FIGURES,
+        subjects.endpoints,
+        endpoints,
+    )?;
+    push_leg_figures(alloc, text, &LEG_FIGURES, subjects.legs, legs)
 }
 
 /// These figures of endpoints.
@@ -200,13 +208,14 @@ fn push_endpoint_figures(
     alloc: Global,
     text: &mut String,
     figures: &[EndpointFigure],
+    subjects: &[Subject],
     endpoints: &[Numbered<EndpointCount>],
 ) -> Result<(), AllocError>
     ensures { OnOk result (string_bytes text.new ≡ string_bytes text.old
-        ++ flat_map (λ f. endpoint_text f endpoints.now) figures.now) }
+        ++ flat_map (λ f. endpoint_text f subjects.now endpoints.now) figures.now) }
 {
     for figure in figures {
-        push_endpoint_figure(alloc, text, *figure, endpoints)?;
+        push_endpoint_figure(alloc, text, *figure, subjects, endpoints)?;
     }
     Ok(())
 }
@@ -216,13 +225,14 @@ fn push_leg_figures(
     alloc: Global,
     text: &mut String,
     figures: &[LegFigure],
+    subjects: &[Subject],
     legs: &[Numbered<LegCount>],
 ) -> Result<(), AllocError>
     ensures { OnOk result (string_bytes text.new ≡ string_bytes text.old
-        ++ flat_map (λ f. leg_text f legs.now) figures.now) }
+        ++ flat_map (λ f. leg_text f subjects.now legs.now) figures.now) }
 {
     for figure in figures {
-        push_leg_figure(alloc, text, *figure, legs)?;
+        push_leg_figure(alloc, text, *figure, subjects, legs)?;
     }
     Ok(())
 }
@@ -232,10 +242,11 @@ fn push_endpoint_figure(
     alloc: Global,
     text: &mut String,
     figure: EndpointFigure,
+    subjects: &[Subject],
     endpoints: &[Numbered<EndpointCount>],
 ) -> Result<(), AllocError>
     ensures { OnOk result (string_bytes text.new
-        ≡ string_bytes text.old ++ endpoint_text figure endpoints.now) }
+        ≡ string_bytes text.old ++ endpoint_text figure subjects.now endpoints.now) }
 {
     let samples = endpoint_samples(alloc, figure, endpoints)?;
     let metric = Metric {
@@ -243,7 +254,7 @@ fn push_endpoint_figure(
         help: figure.help(),
         kind: MetricType::Counter,
     };
-    push_metric(text, &metric, "endpoint", samples.as_slice())
+    push_metric(text, &metric, subjects, samples.as_slice())
 }
 
 /// What a figure was of each endpoint.
@@ -270,10 +281,11 @@ fn push_leg_figure(
     alloc: Global,
     text: &mut String,
     figure: LegFigure,
+    subjects: &[Subject],
     legs: &[Numbered<LegCount>],
 ) -> Result<(), AllocError>
     ensures { OnOk result (string_bytes text.new
-        ≡ string_bytes text.old ++ leg_text figure legs.now) }
+        ≡ string_bytes text.old ++ leg_text figure subjects.now legs.now) }
 {
     let samples = leg_samples(alloc, figure, legs)?;
     let metric = Metric {
@@ -281,7 +293,7 @@ fn push_leg_figure(
         help: figure.help(),
         kind: MetricType::Counter,
     };
-    push_metric(text, &metric, "leg", samples.as_slice())
+    push_metric(text, &metric, subjects, samples.as_slice())
 }
 
 /// What a figure was of each leg.

@@ -2,7 +2,7 @@
 
 ghost use Rattle.std.specs.Prelude.{◌≡◌, ◌++◌, IfOk, OnOk};
 ghost use Rattle.std.specs.String.{string_bytes};
-ghost use Rattle.stats.specs.Lines.{ends_part, flow_part, line_of_leg, next_word, stay_part};
+ghost use Rattle.stats.specs.Lines.{called_part, ends_part, flow_part, line_of_leg, next_word, stay_part};
 
 use crate::leg_count::LegCount;
 use std::alloc::{AllocError, Global};
@@ -20,19 +20,29 @@ pub struct LegLine {
     pub on: bool,
 }
 
-/// The line of a leg: who is sent on to whom, whether it is on, the number of the stay that stands, and what went out on it. Refused for
-/// want of memory alone.
+/// What the ends of a leg are called.
+#[derive(Clone, Copy, PartialEq, Eq)]
+pub struct LegNames<'a> {
+    pub publisher: &'a str,
+    pub subscriber: &'a str,
+}
+
+/// The line of a leg: who is sent on to whom, whether it is on, the number of the stay that stands, what went out on it, and what its ends are
+/// called. Refused for want of memory alone.
 pub fn leg_line(
     alloc: Global,
     line: LegLine,
+    names: LegNames<'_>,
     stay: Option<u64>,
     count: &LegCount,
 ) -> Result<String, AllocError>
-    ensures { IfOk result (λ text. string_bytes text ≡ line_of_leg line stay count.now) }
+    ensures { IfOk result (λ text. string_bytes text
+        ≡ line_of_leg line names.entry.publisher.now names.entry.subscriber.now stay count.now) }
 {
     let mut text = ends_of(alloc, line)?;
     push_stay(&mut text, stay)?;
     push_flow(&mut text, count)?;
+    push_called(&mut text, names.publisher, names.subscriber)?;
     Ok(text)
 }
 
@@ -67,7 +77,15 @@ fn push_flow(text: &mut String, count: &LegCount) -> Result<(), AllocError>
         count.packets, count.octets, count.resent, count.missed,
     )?;
     push_next(text, count.next)?;
-    write!(text, " skipped {}\n", count.skipped)
+    write!(text, " skipped {}", count.skipped)
+}
+
+/// What its ends are called.
+fn push_called(text: &mut String, publisher: &str, subscriber: &str) -> Result<(), AllocError>
+    ensures { OnOk result (string_bytes text.new
+        ≡ string_bytes text.old ++ called_part publisher.now subscriber.now) }
+{
+    write!(text, " publisher {publisher} subscriber {subscriber}\n")
 }
 
 /// The number that comes next.

@@ -2,8 +2,9 @@
 
 ghost use Rattle.std.specs.Prelude.{◌≡◌, ◌++◌, flat_map, OnOk};
 ghost use Rattle.std.specs.String.{string_bytes};
-ghost use Rattle.stats.specs.Metrics.{help_line, metric_text, sample_line, type_line, type_word};
+ghost use Rattle.stats.specs.Metrics.{help_line, metric_text, sample_line, type_line, type_word, value_line};
 
+use crate::subjects::{Subject, labels_at};
 use std::alloc::AllocError;
 
 /// What a metric's value does.
@@ -33,21 +34,20 @@ pub struct Sample {
     pub value: u64,
 }
 
-/// Appends a metric with what it was of endpoints, or of legs; the label says of which. Refused for want of memory alone; then part of it
-/// may stand there.
+/// Appends a metric with what it was of these endpoints, or legs. Refused for want of memory alone; then part of it may stand there.
 pub fn push_metric(
     text: &mut String,
     metric: &Metric,
-    label: &str,
+    subjects: &[Subject],
     samples: &[Sample],
 ) -> Result<(), AllocError>
     ensures { OnOk result (string_bytes text.new
         ≡ string_bytes text.old ++ metric_text metric.now.name.now metric.now.help.now metric.now.kind
-        label.now samples.now) }
+        subjects.now samples.now) }
 {
     push_help(text, metric)?;
     push_type(text, metric)?;
-    push_samples(text, metric, label, samples)
+    push_samples(text, metric, subjects, samples)
 }
 
 /// What it is.
@@ -78,14 +78,14 @@ fn word_of(kind: MetricType) -> &'static str
 fn push_samples(
     text: &mut String,
     metric: &Metric,
-    label: &str,
+    subjects: &[Subject],
     samples: &[Sample],
 ) -> Result<(), AllocError>
-    ensures { OnOk result (string_bytes text.new
-        ≡ string_bytes text.old ++ flat_map (sample_line metric.now.name.now label.now) samples.now) }
+    ensures { OnOk result (string_bytes text.new ≡ string_bytes text.old
+        ++ flat_map (sample_line metric.now.name.now subjects.now) samples.now) }
 {
     for sample in samples {
-        push_sample(text, metric, label, *sample)?;
+        push_sample(text, metric, subjects, *sample)?;
     }
     Ok(())
 }
@@ -94,15 +94,20 @@ fn push_samples(
 fn push_sample(
     text: &mut String,
     metric: &Metric,
-    label: &str,
+    subjects: &[Subject],
     sample: Sample,
 ) -> Result<(), AllocError>
     ensures { OnOk result (string_bytes text.new
-        ≡ string_bytes text.old ++ sample_line metric.now.name.now label.now sample) }
+        ≡ string_bytes text.old ++ sample_line metric.now.name.now subjects.now sample) }
 {
-    write!(
-        text,
-        "{}{{{label}=\"{}\"}} {}\n",
-        metric.name, sample.number, sample.value,
-    )
+    let labels = labels_at(subjects, sample.number);
+    push_value(text, metric.name, labels, sample.value)
+}
+
+/// A value under these labels.
+fn push_value(text: &mut String, name: &str, labels: &str, value: u64) -> Result<(), AllocError>
+    ensures { OnOk result (string_bytes text.new
+        ≡ string_bytes text.old ++ value_line name.now labels.now value) }
+{
+    write!(text, "{name}{{{labels}}} {value}\n")
 }

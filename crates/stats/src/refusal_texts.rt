@@ -2,11 +2,12 @@
 
 ghost use Rattle.std.specs.Prelude.{◌≡◌, ◌++◌, flat_map, OnOk};
 ghost use Rattle.std.specs.String.{string_bytes};
-ghost use Rattle.stats.specs.Refusals.{reason_labels, reason_part, refused_end, refused_figures, refused_help, refused_line, refused_name, refused_sample, refused_start, whose_word};
+ghost use Rattle.stats.specs.Refusals.{reason_labels, reason_part, refused_end, refused_figures, refused_help, refused_line, refused_name, refused_sample, refused_start, whose_labels, whose_word};
 ghost use Rattle.stats.specs.declared.metrics.MetricType.TheVariants.{Counter};
 
 use crate::metrics::{Metric, MetricType, push_help, push_type};
 use crate::refusals::{RefusedCount, kind_word, reason_number, reason_words};
+use crate::subjects::{Subject, labels_at};
 use events::Refusal;
 use std::alloc::AllocError;
 
@@ -24,14 +25,18 @@ pub fn push_refusal_lines(text: &mut String, counts: &[RefusedCount]) -> Result<
 
 /// Appends these counts as a metric, with whose datagrams, what refused them and the reason's number as labels. Refused for want of memory
 /// alone; then part of it may stand there.
-pub fn push_refusal_figures(text: &mut String, counts: &[RefusedCount]) -> Result<(), AllocError>
+pub fn push_refusal_figures(
+    text: &mut String,
+    subjects: &[Subject],
+    counts: &[RefusedCount],
+) -> Result<(), AllocError>
     ensures { OnOk result (string_bytes text.new
-        ≡ string_bytes text.old ++ refused_figures counts.now) }
+        ≡ string_bytes text.old ++ refused_figures subjects.now counts.now) }
 {
     let metric = refused_metric();
     push_help(text, &metric)?;
     push_type(text, &metric)?;
-    push_samples(text, counts)
+    push_samples(text, subjects, counts)
 }
 
 #[tactic(auto, unfolding(crate::specs::Refusals::refused_name, crate::specs::Refusals::refused_help))]
@@ -48,24 +53,48 @@ fn refused_metric() -> Metric
 }
 
 /// The samples, in order.
-fn push_samples(text: &mut String, counts: &[RefusedCount]) -> Result<(), AllocError>
+fn push_samples(
+    text: &mut String,
+    subjects: &[Subject],
+    counts: &[RefusedCount],
+) -> Result<(), AllocError>
     ensures { OnOk result (string_bytes text.new
-        ≡ string_bytes text.old ++ flat_map refused_sample counts.now) }
+        ≡ string_bytes text.old ++ flat_map (refused_sample subjects.now) counts.now) }
 {
     for count in counts {
-        push_sample(text, *count)?;
+        push_sample(text, subjects, *count)?;
     }
     Ok(())
 }
 
 #[tactic(auto, unfolding(crate::specs::Refusals::refused_sample))]
-fn push_sample(text: &mut String, count: RefusedCount) -> Result<(), AllocError>
-    ensures { OnOk result (string_bytes text.new ≡ string_bytes text.old ++ refused_sample count) }
+fn push_sample(
+    text: &mut String,
+    subjects: &[Subject],
+    count: RefusedCount,
+) -> Result<(), AllocError>
+    ensures { OnOk result (string_bytes text.new
+        ≡ string_bytes text.old ++ refused_sample subjects.now count) }
 {
-    text.push_str("sfu_refused_total{endpoint=\"")?;
-    push_whose(text, count.endpoint)?;
+    text.push_str("sfu_refused_total{")?;
+    push_whose_labels(text, subjects, count.endpoint)?;
     push_labels(text, count.refusal)?;
     write!(text, "{}\n", count.count)
+}
+
+/// Whose datagrams they are, as labels.
+fn push_whose_labels(
+    text: &mut String,
+    subjects: &[Subject],
+    endpoint: Option<u16>,
+) -> Result<(), AllocError>
+    ensures { OnOk result (string_bytes text.new
+        ≡ string_bytes text.old ++ whose_labels subjects.now endpoint) }
+{
+    match endpoint {
+        Some(number) => text.push_str(labels_at(subjects, number)),
+        None => text.push_str("endpoint=\"none\""),
+    }
 }
 
 /// What refused it, and the reason's number, as labels.
@@ -74,7 +103,7 @@ fn push_labels(text: &mut String, refusal: Refusal) -> Result<(), AllocError>
 {
     let kind = kind_word(refusal);
     let number = reason_number(refusal);
-    write!(text, "\",kind=\"{kind}\",reason=\"{number}\"}} ")
+    write!(text, ",kind=\"{kind}\",reason=\"{number}\"}} ")
 }
 
 fn push_line(text: &mut String, count: RefusedCount) -> Result<(), AllocError>

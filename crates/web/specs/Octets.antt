@@ -1,5 +1,6 @@
 -- How many octets came from each endpoint and went to it, by a unit's lines for `metrics`.
-use Rattle.std.specs.Prelude.{ℕ, ◌==◌, ◌&&◌, ◌^◌, Bool, true, false, List, [], ◌∷◌, codes, flat_map, Option, None, Some, option_map, option_and_then, if◌then◌else◌}
+use Rattle.std.specs.Prelude.{ℕ, ◌==◌, ◌&&◌, ◌^◌, not, take, Bool, true, false, List, [], ◌∷◌, codes, flat_map, Option, None, Some, option_map, option_and_then, if◌then◌else◌}
+use Rattle.std.specs.List.{prefix_len}
 use Rattle.request_text.specs.Lines.{lines_of}
 use Rattle.request_text.specs.Words.{number_under, words_in}
 use Rattle.web.specs.declared.octets.Flow.{Flow}
@@ -7,14 +8,20 @@ use Rattle.web.specs.declared.octets.FlowCount.{FlowCount}
 use Rattle.web.specs.declared.octets.Way.{Way}
 use Rattle.web.specs.declared.octets.Way.TheVariants.{Heard, Sent}
 use Rattle.web.specs.Endpoints.{as_list}
-use Rattle.web.specs.Words.{without_end, without_start, word_at}
+use Rattle.web.specs.Words.{without_start, word_at}
 
--- ---- NAME{endpoint="N"} OCTETS
+-- ---- NAME{endpoint="N",name="CALLED"} OCTETS
+
+abbrev pub quote_place : List ℕ → ℕ
+quote_place text = prefix_len (λ b. not (b == 34)) text
+
+-- what stands before the first quotation mark
+abbrev pub before_quote : List ℕ → List ℕ
+before_quote text = take (quote_place text) text
 
 abbrev pub endpoint_labelled : List ℕ → List ℕ → Option ℕ
 endpoint_labelled start name =
-    option_and_then (λ rest. option_and_then (number_under (2 ^ 16)) (without_end (codes "\"}") rest))
-    (without_start start name)
+    option_and_then (λ rest. number_under (2 ^ 16) (before_quote rest)) (without_start start name)
 
 abbrev pub flow_of : Way → ℕ → Flow
 flow_of way n = record { endpoint = n; way = way }

@@ -14,7 +14,7 @@ use Rattle.web.specs.declared.state.Rows.TheVariants.{Endpoints, Legs, Totals}
 use Rattle.web.specs.declared.reports.ReceptionLine.{ReceptionLine}
 use Rattle.web.specs.Octets.{flows_in, octets_of}
 use Rattle.web.specs.Reports.{ago_of, fraction_of, jitter_of, leg_reported, publisher_reported, reports_in, trip_of}
-use Rattle.web.specs.Words.{plain_word, refused_word, word_at}
+use Rattle.web.specs.Words.{name_word, plain_word, printed_word, refused_word, word_at}
 
 -- these tokens come after those that were written
 abbrev pub Tells : {E : Type 0} → Result (Unit {0}) E → Written → Written → List Token → Type 0
@@ -34,6 +34,17 @@ number_member name word = known_member name (number_under (2 ^ 64) word)
 
 unfoldable pub text_member : List ℕ → List ℕ → List Token
 text_member name word = key name ∷ (string (plain_word word) ∷ [])
+
+abbrev pub string_or_null : Option (List ℕ) → Token
+string_or_null (Some text) = string text
+string_or_null None = null
+
+unfoldable pub string_member : List ℕ → Option (List ℕ) → List Token
+string_member name text = key name ∷ (string_or_null text ∷ [])
+
+-- what an endpoint is called
+abbrev pub called_member : List ℕ → List ℕ → List Token
+called_member name word = string_member name (printed_word word)
 
 unfoldable pub switch_member : List ℕ → List ℕ → List ℕ → List Token
 switch_member name word wanted = key name ∷ (boolean (bytes_eq word wanted) ∷ [])
@@ -80,7 +91,7 @@ report_members report = trip_members report ++ passed_member report
 unfoldable pub heard_members : List ReceptionLine → Option ℕ → List Token
 heard_members reports n = report_members (leg_reported reports n)
 
--- ---- N ssrc SSRC at ADDRESS present heard M ms ago refused R
+-- ---- N ssrc SSRC at ADDRESS present heard M ms ago refused R name NAME
 
 unfoldable pub endpoint_members : List (List ℕ) → List Token
 endpoint_members words =
@@ -89,6 +100,10 @@ endpoint_members words =
     ++ (text_member (codes "address") (word_at words 4)
     ++ (switch_member (codes "present") (word_at words 5) (codes "present")
     ++ number_member (codes "heard_ago_ms") (word_at words 7))))
+
+-- which it is, and what it is called
+unfoldable pub who_members : List (List ℕ) → List Token
+who_members words = endpoint_members words ++ called_member (codes "name") (name_word words)
 
 abbrev pub endpoint_octets : List FlowCount → Option ℕ → List Token
 endpoint_octets flows (Some n) = octets_members flows n
@@ -106,12 +121,12 @@ measured_members flows reports n refused =
 abbrev pub endpoint_words : List FlowCount → List ReceptionLine → List (List ℕ) → List Token
 endpoint_words flows reports words = if bytes_eq (word_at words 1) (codes "ssrc")
     then begin_object
-    ∷ (endpoint_members words
+    ∷ (who_members words
     ++ (measured_members flows reports (number_under (2 ^ 16) (word_at words 0)) (refused_word words)
     ++ end_object ∷ []))
     else []
 
--- ---- N from P to S on stay T packets K octets O resent R missed M next Q
+-- ---- N from P to S on stay T packets K octets O resent R missed M next Q skipped U publisher NAME subscriber NAME
 
 unfoldable pub leg_members : List (List ℕ) → List Token
 leg_members words =
@@ -120,6 +135,21 @@ leg_members words =
     ++ (number_member (codes "subscriber") (word_at words 4)
     ++ (switch_member (codes "on") (word_at words 5) (codes "on")
     ++ number_member (codes "stay") (word_at words 7))))
+
+unfoldable pub publisher_member : List ℕ → List Token
+publisher_member word = called_member (codes "publisher_name") word
+
+unfoldable pub subscriber_member : List ℕ → List Token
+subscriber_member word = called_member (codes "subscriber_name") word
+
+-- what its ends are called
+unfoldable pub called_members : List (List ℕ) → List Token
+called_members words =
+    publisher_member (word_at words 21) ++ subscriber_member (word_at words 23)
+
+-- which leg it is, and what they are called
+unfoldable pub leg_ends : List (List ℕ) → List Token
+leg_ends words = leg_members words ++ called_members words
 
 unfoldable pub flow_members : List (List ℕ) → List Token
 flow_members words =
@@ -132,7 +162,7 @@ flow_members words =
 abbrev pub leg_words : List ReceptionLine → List (List ℕ) → List Token
 leg_words reports words = if bytes_eq (word_at words 1) (codes "from")
     then begin_object
-    ∷ (leg_members words
+    ∷ (leg_ends words
     ++ (flow_members words
     ++ (heard_members reports (number_under (2 ^ 16) (word_at words 0)) ++ end_object ∷ [])))
     else []

@@ -1,5 +1,6 @@
 -- The words of the unit's lines, by their places.
-use Rattle.std.specs.Prelude.{ℕ, ◌==◌, ◌-◌, ◌&&◌, ◌||◌, nat_le, Bool, List, [], get_or, codes, drop, length, take, Option, None, Some, if◌then◌else◌}
+use Rattle.std.specs.Prelude.{ℕ, ◌==◌, ◌-◌, ◌&&◌, ◌||◌, nat_le, not, Bool, List, [], get_or, codes, drop, length, take, Option, None, Some, if◌then◌else◌}
+use Rattle.std.specs.Char.{is_ascii_graphic}
 use Rattle.std.specs.List.{list_all}
 use Rattle.std.specs.Str.{bytes_eq}
 
@@ -11,6 +12,18 @@ word_at words place = get_or words place []
 abbrev pub refused_word : List (List ℕ) → List ℕ
 refused_word words =
     if bytes_eq (word_at words 6) (codes "never") then word_at words 9 else word_at words 11
+
+-- what an endpoint is called, at the end of its line: `name NAME`
+abbrev pub name_word : List (List ℕ) → List ℕ
+name_word words = if bytes_eq (word_at words (length words - 2)) (codes "name")
+    then word_at words (length words - 1) else []
+
+-- a word is shown as it is, as JSON quotes it, if it has only characters of ASCII that are printed
+abbrev pub is_printed : List ℕ → Bool
+is_printed word = not (length word == 0) && list_all is_ascii_graphic word
+
+abbrev pub printed_word : List ℕ → Option (List ℕ)
+printed_word word = if is_printed word then Some word else None
 
 -- a small letter, a digit, a dot, a slash, a colon or a bracket: nothing that HTML or JSON reads as more than itself
 abbrev pub is_plain_byte : ℕ → Bool

@@ -1,13 +1,15 @@
 //! A unit is looked at by HTTP: a program of its own asks it through its control, and answers who comes.
 //!
 //! Read `serving` first, the loop, then `answer`: which request is answered by what. `inquiry` asks the unit, `visitors` are those who came, of whom
-//! nobody is waited for, and `teller` answers them by what the unit said last. `page` is the page for people, a constant, and `state` the unit as JSON.
+//! nobody is waited for, and `teller` answers them by what the unit said last. `page` is the page for people, a constant, and `state` the unit as JSON
+//! (`members`).
 #![tactic(auto)]
 
 mod answer;
 mod endpoints;
 mod hosts;
 mod inquiry;
+mod members;
 mod octets;
 mod page;
 mod reports;

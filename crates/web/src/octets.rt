@@ -1,9 +1,9 @@
 //! How many octets came from each endpoint and went to it, by a unit's lines for `metrics`.
 
-ghost use Rattle.std.specs.Prelude.{◌≡◌, ◌++◌, IfOk, OnOk, flat_map, map};
-ghost use Rattle.web.specs.Octets.{endpoint_labelled, flow_called, flows_in, is_same_flow, is_same_way, line_flows, octets_of, sent_called, words_flow};
+ghost use Rattle.std.specs.Prelude.{◌≡◌, ◌≤◌, ◌++◌, IfOk, OnOk, flat_map, length, map};
+ghost use Rattle.web.specs.Octets.{before_quote, endpoint_labelled, flow_called, flows_in, is_same_flow, is_same_way, line_flows, octets_of, quote_place, sent_called, words_flow};
 
-use crate::words::{without_end, without_start};
+use crate::words::without_start;
 use request_text::{lines, number_u16, number_u64, word_at, words_of};
 use std::alloc::{AllocError, Global};
 
@@ -99,13 +99,26 @@ fn sent_called(name: &[u8]) -> Option<Flow>
     })
 }
 
-/// The number between this start and the end of the label.
+/// The number between this start and the quotation mark behind it.
 fn endpoint_labelled(name: &[u8], start: &[u8]) -> Option<u16>
     ensures { result ≡ endpoint_labelled start.now name.now }
 {
     let rest = without_start(name, start)?;
-    let number = without_end(rest, b"\"}")?;
-    number_u16(number)
+    number_u16(before_quote(rest))
+}
+
+/// What stands before the first quotation mark; all if there is none.
+fn before_quote(text: &[u8]) -> &[u8]
+    ensures { result.now ≡ before_quote text.now }
+{
+    &text[..quote_place(text)]
+}
+
+fn quote_place(text: &[u8]) -> usize
+    ensures value { result ≡ quote_place text.now }
+    ensures within { result ≤ length text.now }
+{
+    text.iter().take_while(|byte| **byte != b'"').count()
 }
 
 /// How many octets of this flow were counted, if they were.

@@ -68,6 +68,7 @@ th:first-child, td:first-child { position: sticky; left: 0; background: var(--ca
 #matrix { min-width: 0; }
 #matrix th, #matrix td { padding: .3rem .5rem; text-align: center; }
 #matrix th:first-child { text-align: left; padding-left: 0; }
+.called, #matrix th { max-width: 20rem; overflow: hidden; text-overflow: ellipsis; }
 .mark { display: inline-block; width: .75rem; height: .75rem; border: 2px solid currentcolor; border-radius: 50%; vertical-align: -.05rem; forced-color-adjust: none; }
 .mark.on { background: currentcolor; }
 #matrix, #gallery { margin-top: .6rem; }
@@ -97,6 +98,7 @@ footer { margin-top: 1rem; }
   .cards td:first-child { position: static; justify-content: flex-start; font-weight: 600; }
   .cards td:first-child::before { color: inherit; font-size: inherit; }
   .cards .whole { grid-column: 1 / -1; }
+  .cards .called { max-width: none; white-space: normal; overflow-wrap: anywhere; }
   .cards .curve { flex: 1; max-width: 68%; }
 }
 </style>
@@ -153,6 +155,8 @@ const make = (parent, tag, kind = '', text = '') => {
 const known = (it, said) => it === null || it === undefined ? NONE : said(it);
 const count = it => known(it, n => n.toLocaleString('en'));
 const plain = it => known(it, String);
+// What an endpoint is called, and its number if that is something else.
+const titled = (name, number) => (name ?? String(number)) === String(number) ? plain(number) : `${name} (${number})`;
 const scaled = n => n < 1e3 ? [Math.floor(n), ''] : n < 1e6 ? [(n / 1e3).toFixed(1), 'k']
   : n < 1e9 ? [(n / 1e6).toFixed(1), 'M'] : [(n / 1e9).toFixed(1), 'G'];
 const rate = it => known(it, n => scaled(n).join('\u00a0') + 'bit/s');
@@ -242,7 +246,7 @@ const table = (it, columns, key) => {
   };
 };
 const showEndpoints = table(at('endpoints'), [
-  ['endpoint', '', it => plain(it.number)],
+  ['endpoint', 'called', it => titled(it.name, it.number)],
   ['state', 'word', it => it.present ? ['present', 'on'] : ['absent', 'off']],
   ['in', 'in', it => rate(latest(it.number, 'heard'))],
   ['out', 'out', it => rate(latest(it.number, 'sent'))],
@@ -258,8 +262,8 @@ const showEndpoints = table(at('endpoints'), [
 const showLegs = table(at('legs'), [
   ['leg', '', it => plain(it.leg)],
   ['state', 'word', it => it.on ? ['on', 'on'] : ['off', 'off']],
-  ['from', '', it => plain(it.publisher)],
-  ['to', '', it => plain(it.subscriber)],
+  ['from', 'word called', it => titled(it.publisher_name, it.publisher)],
+  ['to', 'word called', it => titled(it.subscriber_name, it.subscriber)],
   ['packets', '', it => count(it.packets)],
   ['payload', '', it => bytes(it.octets)],
   ['resent', '', it => count(it.resent)],
@@ -297,8 +301,8 @@ const showTotals = state => TOTALS.forEach(([, , what], place) => {
 
 // Who sees whom: those who receive, by those who send.
 let pairs = '';
-const showMatrix = (state, senders) => {
-  const wanted = state.legs.map(it => `${it.publisher} ${it.subscriber} ${it.on}`).join();
+const showMatrix = (state, senders, titles) => {
+  const wanted = [...titles.values(), ...state.legs.map(it => `${it.publisher} ${it.subscriber} ${it.on}`)].join();
   if (pairs === wanted) return;
   pairs = wanted;
   const receivers = state.endpoints.map(it => it.number).filter(n => state.legs.some(it => it.subscriber === n));
@@ -306,33 +310,33 @@ const showMatrix = (state, senders) => {
   at('matrix').replaceChildren();
   const head = make(make(at('matrix'), 'thead'), 'tr');
   make(head, 'th', '', 'receiver');
-  for (const sender of senders) make(head, 'th', '', plain(sender));
+  for (const sender of senders) make(head, 'th', '', titles.get(sender)).title = titles.get(sender);
   const body = make(at('matrix'), 'tbody');
   for (const receiver of receivers) {
     const line = make(body, 'tr');
-    make(line, 'th', '', plain(receiver)).setAttribute('role', 'rowheader');
+    make(line, 'th', '', titles.get(receiver)).setAttribute('role', 'rowheader');
     for (const sender of senders) {
       const cell = make(line, 'td'), seen = states.get(`${sender} ${receiver}`);
       if (!seen) continue;
       const mark = make(cell, 'span', `mark ${seen}`);
       mark.setAttribute('role', 'img');
       mark.setAttribute('aria-label', seen);
-      mark.title = `from ${sender} to ${receiver}: ${seen}`;
+      mark.title = `from ${titles.get(sender)} to ${titles.get(receiver)}: ${seen}`;
     }
   }
 };
 
 // The set of each publisher. A picture takes the place of the one before once it is there.
 let drawing = false;
-const showGallery = async (senders, moment) => {
-  const gallery = at('gallery');
-  if (gallery.dataset.senders !== senders.join(' ')) {
-    gallery.dataset.senders = senders.join(' ');
+const showGallery = async (senders, titles, moment) => {
+  const gallery = at('gallery'), wanted = senders.map(it => titles.get(it)).join(' ');
+  if (gallery.dataset.senders !== wanted) {
+    gallery.dataset.senders = wanted;
     gallery.replaceChildren();
     for (const sender of senders) {
       const figure = make(gallery, 'figure');
       make(figure, 'a').href = `/publishers/${encodeURIComponent(sender)}.svg`;
-      make(figure, 'figcaption', '', `endpoint ${sender}`);
+      make(figure, 'figcaption', '', `endpoint ${titles.get(sender)}`);
     }
   }
   if (drawing || document.hidden) return;
@@ -352,7 +356,7 @@ const showGallery = async (senders, moment) => {
 };
 
 // The lines of legs on which nothing is sent, as many as are soon read.
-const TROUBLE = /^leg \d+ from \d+ to \d+: (?!sent;)/, MOST = 20;
+const TROUBLE = /^leg \d+ from \S+ to \S+: (?!sent;)/, MOST = 20;
 const showTroubles = text => {
   const lines = text.split('\n').filter(it => TROUBLE.test(it));
   const more = lines.length - MOST, list = at('troubles');
@@ -366,12 +370,13 @@ const showTroubles = text => {
 const show = state => {
   if (!takeIn(state)) return;
   const senders = state.endpoints.map(it => it.number).filter(n => state.legs.some(it => it.publisher === n));
+  const titles = new Map(state.endpoints.map(it => [it.number, titled(it.name, it.number)]));
   showTotals(state);
   showEndpoints(state.endpoints, state.moment_ms);
   showLegs(state.legs, state.moment_ms);
   for (const id of ['matrix', 'gallery', 'legs']) at(id).closest('section').hidden = state.legs.length === 0;
-  showMatrix(state, senders);
-  showGallery(senders, state.moment_ms);
+  showMatrix(state, senders, titles);
+  showGallery(senders, titles, state.moment_ms);
   at('main').hidden = false;
   document.title = `sfu: ${count(state.counts.present)} present`;
 };

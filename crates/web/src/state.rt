@@ -3,17 +3,18 @@
 ghost use Rattle.std.specs.Prelude.{◌≡◌, IfOk, flat_map, map};
 ghost use Rattle.json.specs.Print.{print};
 ghost use Rattle.request_text.specs.Lines.{lines_of};
-ghost use Rattle.web.specs.State.{Tells, ago_member, array_begun, array_member, counts_begun, counts_member, endpoint_members, endpoint_octets, endpoint_words, flow_members, heard_members, known_member, known_tokens, leg_members, leg_words, line_tokens, losses_members, measured_members, number_member, octets_members, passed_member, received_members, reception_members, refused_member, report_members, reported_members, state_parts, state_tokens, switch_member, text_member, totals_members, totals_words, trip_members, words_tokens};
+ghost use Rattle.web.specs.State.{Tells, ago_member, array_begun, array_member, called_members, counts_begun, counts_member, endpoint_members, endpoint_octets, endpoint_words, flow_members, heard_members, known_tokens, leg_ends, leg_members, leg_words, line_tokens, losses_members, measured_members, octets_members, passed_member, publisher_member, received_members, reception_members, refused_member, report_members, reported_members, state_parts, state_tokens, subscriber_member, totals_members, totals_words, trip_members, who_members, words_tokens};
 
+use crate::members::{push_called, push_known, push_number, push_switch, push_text};
 use crate::octets::{Flow, FlowCount, Way, flows_in, octets_of};
 use crate::reports::{
     ReceptionLine, ago_of, fraction_of, jitter_of, leg_reported, publisher_reported, reports_in,
     trip_of,
 };
 use crate::said::Said;
-use crate::words::{plain_word, refused_word};
+use crate::words::{name_word, refused_word};
 use json::Writer;
-use request_text::{is_word, lines, number_u16, number_u64, word_at, words_of};
+use request_text::{is_word, lines, number_u16, word_at, words_of};
 use std::alloc::{AllocError, Global};
 
 /// What a unit is like, by what it said, as a JSON object. `moment_ms` is a number, `endpoints` and `legs` are arrays of objects, `counts` is an
@@ -222,7 +223,7 @@ fn push_endpoint(
         return Ok(());
     }
     writer.begin_object()?;
-    push_endpoint_members(writer, words)?;
+    push_who(writer, words)?;
     let number = number_u16(word_at(words, 0));
     push_measured(writer, flows, reports, number, refused_word(words))?;
     writer.end_object()
@@ -319,6 +320,15 @@ fn push_octets(writer: &mut Writer, flows: &[FlowCount], endpoint: u16) -> Resul
     push_known(writer, "sent_octets", octets_of(flows, sent))
 }
 
+/// Which endpoint it is, and what it is called.
+#[tactic(auto, unfolding(crate::specs::State::who_members))]
+fn push_who(writer: &mut Writer, words: &[&[u8]]) -> Result<(), AllocError>
+    ensures { Tells result writer.old writer.new (who_members (map (λ x. x.now) words.now)) }
+{
+    push_endpoint_members(writer, words)?;
+    push_called(writer, "name", name_word(words))
+}
+
 #[tactic(auto, unfolding(crate::specs::State::endpoint_members))]
 fn push_endpoint_members(writer: &mut Writer, words: &[&[u8]]) -> Result<(), AllocError>
     ensures { Tells result writer.old writer.new (endpoint_members (map (λ x. x.now) words.now)) }
@@ -351,7 +361,7 @@ fn push_leg(
         return Ok(());
     }
     writer.begin_object()?;
-    push_leg_members(writer, words)?;
+    push_leg_ends(writer, words)?;
     push_flow_members(writer, words)?;
     push_heard(writer, reports, number_u16(word_at(words, 0)))?;
     writer.end_object()
@@ -397,6 +407,38 @@ fn push_leg_members(writer: &mut Writer, words: &[&[u8]]) -> Result<(), AllocErr
     push_number(writer, "stay", word_at(words, 7))
 }
 
+/// Which leg it is, and what its ends are called.
+#[tactic(auto, unfolding(crate::specs::State::leg_ends))]
+fn push_leg_ends(writer: &mut Writer, words: &[&[u8]]) -> Result<(), AllocError>
+    ensures { Tells result writer.old writer.new (leg_ends (map (λ x. x.now) words.now)) }
+{
+    push_leg_members(writer, words)?;
+    push_called_ends(writer, words)
+}
+
+/// What the ends of a leg are called.
+#[tactic(auto, unfolding(crate::specs::State::called_members))]
+fn push_called_ends(writer: &mut Writer, words: &[&[u8]]) -> Result<(), AllocError>
+    ensures { Tells result writer.old writer.new (called_members (map (λ x. x.now) words.now)) }
+{
+    push_publisher(writer, word_at(words, 21))?;
+    push_subscriber(writer, word_at(words, 23))
+}
+
+#[tactic(auto, unfolding(crate::specs::State::publisher_member))]
+fn push_publisher(writer: &mut Writer, word: &[u8]) -> Result<(), AllocError>
+    ensures { Tells result writer.old writer.new (publisher_member word.now) }
+{
+    push_called(writer, "publisher_name", word)
+}
+
+#[tactic(auto, unfolding(crate::specs::State::subscriber_member))]
+fn push_subscriber(writer: &mut Writer, word: &[u8]) -> Result<(), AllocError>
+    ensures { Tells result writer.old writer.new (subscriber_member word.now) }
+{
+    push_called(writer, "subscriber_name", word)
+}
+
 /// What went out on a leg.
 #[tactic(auto, unfolding(crate::specs::State::flow_members))]
 fn push_flow_members(writer: &mut Writer, words: &[&[u8]]) -> Result<(), AllocError>
@@ -439,46 +481,4 @@ fn push_losses_members(writer: &mut Writer, words: &[&[u8]]) -> Result<(), Alloc
     push_number(writer, "dropped", word_at(words, 11))?;
     push_number(writer, "strangers", word_at(words, 13))?;
     push_number(writer, "unread", word_at(words, 15))
-}
-
-/// A member that is the number that a word spells, or null.
-fn push_number(writer: &mut Writer, name: &str, word: &[u8]) -> Result<(), AllocError>
-    ensures { Tells result writer.old writer.new (number_member name.now word.now) }
-{
-    push_known(writer, name, number_u64(word))
-}
-
-/// A member that is a number, or null if none is known.
-#[tactic(auto, unfolding(crate::specs::State::known_member))]
-fn push_known(writer: &mut Writer, name: &str, number: Option<u64>) -> Result<(), AllocError>
-    ensures { Tells result writer.old writer.new (known_member name.now number) }
-{
-    writer.key(name)?;
-    match number {
-        Some(number) => writer.u64(number),
-        None => writer.null(),
-    }
-}
-
-/// A member that is a text.
-#[tactic(auto, unfolding(crate::specs::State::text_member))]
-fn push_text(writer: &mut Writer, name: &str, word: &[u8]) -> Result<(), AllocError>
-    ensures { Tells result writer.old writer.new (text_member name.now word.now) }
-{
-    writer.key(name)?;
-    writer.string(plain_word(word))
-}
-
-/// A member that says whether the word is this one.
-#[tactic(auto, unfolding(crate::specs::State::switch_member))]
-fn push_switch(
-    writer: &mut Writer,
-    name: &str,
-    word: &[u8],
-    wanted: &[u8],
-) -> Result<(), AllocError>
-    ensures { Tells result writer.old writer.new (switch_member name.now word.now wanted.now) }
-{
-    writer.key(name)?;
-    writer.boolean(is_word(word, wanted))
 }

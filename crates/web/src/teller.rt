@@ -19,8 +19,8 @@ use std::alloc::{AllocError, Global};
 /// What a browser may do with the page: it uses the page's own style and script, by their SHA-256, and loads from here alone
 /// (Content Security Policy Level 3).
 const PAGE_POLICY: &str = "default-src 'none'; \
-    style-src 'sha256-c1BIqijOqDGqaectPTT71MyWxhYczAscjVXxtTXYL3s='; \
-    script-src 'sha256-OdH1XufJw1z1zo20rp2IC/zAzF+RrHwWkFZHoRhlK6w='; \
+    style-src 'sha256-D+JhhS9oHeGLZMwWAc06beGHlralXuvhPhzoXnESFuc='; \
+    script-src 'sha256-Gs58eDwky2LUXBfFSD2sprIDy9NX+d82p54HeFRbtZk='; \
     connect-src 'self'; img-src 'self'; base-uri 'none'; form-action 'none'; frame-ancestors 'none'";
 
 /// What it may do with all else: a picture has a style of its own, and nothing runs or is loaded.

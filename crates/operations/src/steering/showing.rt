@@ -1,20 +1,20 @@
 //! What those who wait for an answer are shown of the unit.
 
 use super::{OpenQuestion, Steering};
-use crate::metrics_answer::{metrics_text, screened_metrics};
+use crate::metrics_text::{Seen, metrics_text};
 use crate::report_answers::{refusals_text, reports_text};
 use control_protocol::{EndpointLine, Screened, Unheard, counts_text, present_line, screened_text};
 use desk::Desk;
 use diagnosis::reason_lines;
 use ports::{Look, Status};
 use request_text::desk_text;
-use stats::{LegLine, Traffic, leg_line};
+use stats::{LegLine, LegState, Traffic, leg_line};
 use std::alloc::AllocError;
 
 impl Steering {
     /// Whether somebody waits for the totals.
     pub(crate) fn wants_counts(&self) -> bool {
-        self.asked == OpenQuestion::Counts
+        self.asked == OpenQuestion::Counts || self.asked == OpenQuestion::Metrics
     }
 
     /// What somebody wants to see of the room at this moment.
@@ -30,13 +30,17 @@ impl Steering {
             | OpenQuestion::Why(_)
             | OpenQuestion::News
             | OpenQuestion::Stop => Look::Presence,
-            OpenQuestion::Legs => Look::Stays,
+            OpenQuestion::Legs | OpenQuestion::LegMetrics => Look::Stays,
             OpenQuestion::Nothing | OpenQuestion::Counts => Look::Nothing,
         }
     }
 
     /// The totals are shown to who waits for them.
     pub(crate) fn show_counts(&mut self, status: &Status, unheard: &Unheard, screened: &Screened) {
+        if self.asked == OpenQuestion::Metrics {
+            self.status = Some(*status);
+            return;
+        }
         let text = counts_text(self.alloc, status, unheard);
         self.push(text);
         let text = screened_text(self.alloc, screened);
@@ -74,6 +78,7 @@ impl Steering {
                     refused,
                     only_listens: listed.only_listens,
                     other_source: self.diagnosing.other_source(endpoint),
+                    name: self.unit.name(endpoint),
                 },
             );
             self.push(line);
@@ -85,8 +90,17 @@ impl Steering {
         let Some(line) = self.legs.get(usize::from(leg)).copied() else {
             return;
         };
-        if let Some(count) = traffic.leg(line.leg) {
-            let text = leg_line(self.alloc, line, stay, &count);
+        if self.asked == OpenQuestion::LegMetrics {
+            let state = LegState {
+                leg: line.leg,
+                on: line.on,
+                stay,
+            };
+            if self.states.push(state).is_err() {
+                self.lines = None;
+            }
+        } else if let Some(count) = traffic.leg(line.leg) {
+            let text = leg_line(self.alloc, line, self.unit.ends(line), stay, &count);
             self.push(text);
         }
     }
@@ -109,11 +123,9 @@ impl Steering {
     ) {
         match self.asked {
             OpenQuestion::Stop => {}
-            OpenQuestion::Metrics => {
-                let present = self.present.as_slice();
-                let text = metrics_text(self.alloc, present, traffic, unheard, moment);
-                self.push(text);
-                let text = screened_metrics(self.alloc, self.flooded.as_slice(), screened);
+            OpenQuestion::Metrics => self.asked = OpenQuestion::LegMetrics,
+            OpenQuestion::LegMetrics => {
+                let text = self.metrics(traffic, unheard, screened, moment);
                 self.push(text);
                 self.answer();
             }
@@ -146,6 +158,25 @@ impl Steering {
         }
     }
 
+    /// The metrics, by what was shown for them.
+    fn metrics(
+        &self,
+        traffic: &Traffic,
+        unheard: &Unheard,
+        screened: &Screened,
+        moment: u64,
+    ) -> Result<String, AllocError> {
+        let seen = Seen {
+            status: self.status,
+            present: self.present.as_slice(),
+            legs: self.states.as_slice(),
+            flooded: self.flooded.as_slice(),
+            unheard,
+            screened,
+        };
+        metrics_text(self.alloc, &self.unit, &seen, traffic, moment)
+    }
+
     /// The lines that say why the subscriber of this leg sees nothing, or of each.
     fn why_text(
         &self,
@@ -175,7 +206,7 @@ impl Steering {
             .diagnosing
             .reason(line, endpoints, present, traffic, moment)
         {
-            Some(reason) => reason_lines(self.alloc, line, reason, moment),
+            Some(reason) => reason_lines(self.alloc, line, self.unit.ends(line), reason, moment),
             None => Err(AllocError),
         }
     }

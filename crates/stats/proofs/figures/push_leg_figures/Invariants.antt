@@ -6,4 +6,4 @@ use Rattle.stats.specs.Figures.{leg_text}
 use Rattle.stats.proofs.figures.push_leg_figures.Given as goal
 
 abbrev pub invariant-loop-figure : goal.invariant-loop-figure
-invariant-loop-figure l = string_bytes l.text ≡ string_bytes l.fn.text ++ flat_map (λ (f : LegFigure). leg_text f l.legs) (take l.figure-index l.figures)
+invariant-loop-figure l = string_bytes l.text ≡ string_bytes l.fn.text ++ flat_map (λ (f : LegFigure). leg_text f l.subjects l.legs) (take l.figure-index l.figures)

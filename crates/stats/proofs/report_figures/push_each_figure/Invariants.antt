@@ -6,4 +6,4 @@ use Rattle.stats.specs.ReportFigures.{report_figure_text}
 use Rattle.stats.proofs.report_figures.push_each_figure.Given as goal
 
 abbrev pub invariant-loop-figure : goal.invariant-loop-figure
-invariant-loop-figure l = string_bytes l.text ≡ string_bytes l.fn.text ++ flat_map (λ (f : ReportFigure). report_figure_text f l.moment l.reports) (take l.figure-index l.figures)
+invariant-loop-figure l = string_bytes l.text ≡ string_bytes l.fn.text ++ flat_map (λ (f : ReportFigure). report_figure_text f l.moment l.subjects l.reports) (take l.figure-index l.figures)

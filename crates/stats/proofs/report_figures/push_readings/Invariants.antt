@@ -5,4 +5,4 @@ use Rattle.stats.specs.ReportFigures.{report_line}
 use Rattle.stats.proofs.report_figures.push_readings.Given as goal
 
 abbrev pub invariant-loop-numbered : goal.invariant-loop-numbered
-invariant-loop-numbered l = string_bytes l.text ≡ string_bytes l.fn.text ++ flat_map (report_line l.figure l.moment) (take l.numbered-index l.reports)
+invariant-loop-numbered l = string_bytes l.text ≡ string_bytes l.fn.text ++ flat_map (report_line l.figure l.moment l.subjects) (take l.numbered-index l.reports)
