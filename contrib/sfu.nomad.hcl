@@ -52,7 +52,7 @@ job "sfu" {
 
       config {
         command = "/usr/bin/sfu"
-        args    = ["serve", "${NOMAD_TASK_DIR}/conference.toml", "--status", "60"]
+        args    = ["serve", "${NOMAD_TASK_DIR}/conference.toml", "--status", "60", "--log-why"]
       }
 
       template {

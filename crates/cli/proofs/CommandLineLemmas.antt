@@ -134,18 +134,19 @@ asked_page f path address anyone host at_path at_address at_anyone at_host =
     rw (path_is, address_is, at_anyone, host_is) refl
 
 pub asked_serve : (f : Found) (recorded : Option (Option (Text × Option ℕ × Bool))) (path : Option Text) (limit : Option ℕ) (next : Bool) (file : Option Text)
-    (ticks status : Option ℕ) (control : Option Text) (log_time : Bool) (numbers : Option Text) → recorded ≡ record_with path limit next
+    (ticks status : Option ℕ) (control : Option Text) (log_time : Bool) (numbers : Option Text) (log_why : Bool) → recorded ≡ record_with path limit next
     → path ≡ first_value f (codes "record")
     → limit ≡ moment_in (codes "record-limit") (rows_of f) → next ≡ is_set (codes "record-next") (rows_of f) → file ≡ first_value f (codes "FILE")
     → ticks ≡ number_in (codes "ticks") (rows_of f) → status ≡ number_in (codes "status") (rows_of f)
     → control ≡ first_value f (codes "control") → log_time ≡ is_set (codes "log-time") (rows_of f) → numbers ≡ first_value f (codes "numbers")
-    → option_and_then (λ r. option_map (λ t. serve t ticks status control r log_time numbers) file) recorded ≡ serve_named (rows_of f)
-asked_serve f recorded path limit next file ticks status control log_time numbers at_record at_path at_limit at_next at_file at_ticks at_status at_control at_time at_numbers =
+    → log_why ≡ is_set (codes "log-why") (rows_of f)
+    → option_and_then (λ r. option_map (λ t. serve t ticks status control r log_time numbers log_why) file) recorded ≡ serve_named (rows_of f)
+asked_serve f recorded path limit next file ticks status control log_time numbers log_why at_record at_path at_limit at_next at_file at_ticks at_status at_control at_time at_numbers at_why =
     let path_is = at_path ∙ first_value-rows f (codes "record") in
     let file_is = at_file ∙ first_value-rows f (codes "FILE") in
     let control_is = at_control ∙ first_value-rows f (codes "control") in
     let numbers_is = at_numbers ∙ first_value-rows f (codes "numbers") in
-    rw (at_record, path_is, at_limit, at_next, file_is, at_ticks, at_status, control_is, at_time, numbers_is) refl
+    rw (at_record, path_is, at_limit, at_next, file_is, at_ticks, at_status, control_is, at_time, numbers_is, at_why) refl
 
 pub words_read : (f : Found) (id : Text) (words : Option (List Text)) → words ≡ option_map raw_values (matched_of f id)
     → unwrap_or words [] ≡ words_in id (rows_of f)

@@ -115,8 +115,9 @@ recorded_app = with_rule
     (flag_rule (codes "record-next"))
 
 abbrev pub serve_app : App
-serve_app =
-    with_rule (with_rule recorded_app (word_rule (codes "numbers"))) (flag_rule (codes "log-time"))
+serve_app = with_rule
+    (with_rule (with_rule recorded_app (word_rule (codes "numbers"))) (flag_rule (codes "log-time")))
+    (flag_rule (codes "log-why"))
 
 abbrev pub ask_app : App
 ask_app = with_rule (with_rule (new_app (codes "ask")) (required_rule (codes "PATH"))) (words_rule (codes "WORD"))
@@ -165,7 +166,7 @@ pub data Request : Type 0 where
   check : Text → Request
   replay : Text → Option ℕ → Option ℕ → Option ℕ → Bool → Option ℕ → Bool → Bool → Request
   serve : Text → Option ℕ → Option ℕ → Option Text → Option (Text × Option ℕ × Bool) → Bool → Option Text
-      → Request
+      → Bool → Request
   draw : ℕ → Request
   version : Request
   ask : Text → List Text → Request
@@ -187,9 +188,9 @@ abbrev pub action_request : Action → Request
 action_request (action.Offline what) = offline_request what
 action_request (action.Replay file leg endpoint from events gaps utc others) =
     replay file.now leg endpoint from events gaps utc others
-action_request (action.Serve file ticks status control recorded log_time numbers) =
+action_request (action.Serve file ticks status control recorded log_time numbers log_why) =
     serve file.now ticks status (option_map (λ path. path.now) control) (option_map record_of recorded) log_time
-    (option_map (λ path. path.now) numbers)
+    (option_map (λ path. path.now) numbers) log_why
 action_request (action.Ask path words) = ask path.now (map (λ word. word.now) words.items)
 action_request (action.Page path address anyone host) =
     page path.now address.now anyone (option_map (λ name. name.now) host)
@@ -235,7 +236,7 @@ serve_named rows = option_and_then
     (λ recorded. option_map
     (λ file. serve file (number_in (codes "ticks") rows) (number_in (codes "status") rows)
     (first_of (codes "control") rows) recorded (is_set (codes "log-time") rows)
-    (first_of (codes "numbers") rows))
+    (first_of (codes "numbers") rows) (is_set (codes "log-why") rows))
     (first_of (codes "FILE") rows))
     (record_with (first_of (codes "record") rows) (moment_in (codes "record-limit") rows)
     (is_set (codes "record-next") rows))
@@ -299,7 +300,7 @@ AsksOfUnit None = ⊥
 AsksOfUnit (Some (bound media)) = ⊥
 AsksOfUnit (Some (check file)) = ⊥
 AsksOfUnit (Some (replay file leg endpoint from events gaps utc others)) = ⊥
-AsksOfUnit (Some (serve file ticks status control recorded log_time numbers)) = Unit {0}
+AsksOfUnit (Some (serve file ticks status control recorded log_time numbers log_why)) = Unit {0}
 AsksOfUnit (Some (draw media)) = ⊥
 AsksOfUnit (Some version) = ⊥
 AsksOfUnit (Some (ask path words)) = Unit {0}

@@ -82,6 +82,8 @@ const NUMBERS_HELP: &str =
 
 const LOG_TIME_HELP: &str = "Begins each line of counts with the time (UTC)";
 
+const LOG_WHY_HELP: &str = "Says why nothing comes on a leg, or what is sent, when that changes";
+
 const PATH_HELP: &str = "The path at which the unit is steered (`sfu serve --control PATH`)";
 
 const WORD_HELP: &str = "What the unit is asked, as `present` or `select 0 off`";
@@ -215,7 +217,8 @@ fn serve_command<'a>(alloc: Global) -> Result<Command<'a>, AllocError>
     );
     let serve = asking(serve, flag(alloc, "record-next", RECORD_NEXT_HELP));
     let serve = asking(serve, optional_word(alloc, "numbers", "PATH", NUMBERS_HELP));
-    asking(serve, flag(alloc, "log-time", LOG_TIME_HELP))
+    let serve = asking(serve, flag(alloc, "log-time", LOG_TIME_HELP));
+    asking(serve, flag(alloc, "log-why", LOG_WHY_HELP))
 }
 
 /// `ask PATH WORD..`.

@@ -30,7 +30,7 @@ pub enum Action<'a> {
     },
     /// `sfu serve FILE`: the unit on a socket, by the file's settings, for so many turns, or until it is stopped. With a line of counts each so
     /// many seconds, which begins with the time, or without; steered at a path, or not; recorded, or not; with the numbers of its legs noted at
-    /// a path, or not.
+    /// a path, or not; with lines that say why nothing comes on a leg, or without.
     Serve {
         file: &'a str,
         ticks: Option<u32>,
@@ -39,6 +39,7 @@ pub enum Action<'a> {
         record: Option<Record<'a>>,
         log_time: bool,
         numbers: Option<&'a str>,
+        log_why: bool,
     },
     /// `sfu ask PATH WORD..`: what the unit answers that is steered at the path.
     Ask {
@@ -229,6 +230,7 @@ fn serve_named<'a>(matches: &ArgMatches<'a>) -> Option<Action<'a>>
         record,
         log_time: is_set(matches, "log-time"),
         numbers: matches.get_str("numbers"),
+        log_why: is_set(matches, "log-why"),
     })
 }
 

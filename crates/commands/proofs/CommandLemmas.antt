@@ -69,7 +69,7 @@ unread (check file) input printed errors_old errors_new s fails read set_up hear
     record { done = λ is. absurd (fails is); refused = λ is. absurd (read is) }
 unread (replay file leg endpoint from events gaps utc others) input printed errors_old errors_new s fails read set_up heard says =
     record { done = λ is. absurd (fails is); refused = λ is. absurd (read is) }
-unread (serve file ticks seconds control recorded log_time numbers) input printed errors_old errors_new s fails read set_up heard says =
+unread (serve file ticks seconds control recorded log_time numbers log_why) input printed errors_old errors_new s fails read set_up heard says =
     ends_unnumbered numbers ticks printed printed errors_old errors_new s (unit_undone ticks printed errors_old errors_new s fails says)
 unread (draw media) input printed errors_old errors_new s fails read set_up heard says =
     record { done = λ is. absurd (fails is); refused = λ is. absurd (read is) }

@@ -70,7 +70,7 @@ Ends (bound media) input old new errors_old errors_new s =
 Ends (check file) input old new errors_old errors_new s = EndsCheck old new errors_old errors_new s
 Ends (replay file leg endpoint from events gaps utc others) input old new errors_old errors_new s =
     EndsReplay (shown_by leg endpoint from events gaps utc) others input old new errors_old errors_new s
-Ends (serve file ticks status control recorded log_time numbers) input old new errors_old errors_new s =
+Ends (serve file ticks status control recorded log_time numbers log_why) input old new errors_old errors_new s =
     EndsNumbered numbers ticks old new errors_old errors_new s
 Ends (draw media) input old new errors_old errors_new s =
     EndsDraw media input old new errors_old errors_new s

@@ -33,13 +33,15 @@ use std::thread::Threads;
 use std::time;
 use web::run_page;
 
-/// Where a unit is steered and recorded, and where its numbers are noted; and whether its lines of counts begin with the time.
+/// Where a unit is steered and recorded, and where its numbers are noted; and whether its lines begin with the time, and some say why nothing comes
+/// on a leg.
 #[derive(Clone, Copy)]
 struct Paths<'a> {
     control: Option<&'a str>,
     record: Option<Record<'a>>,
     log_time: bool,
     numbers: Option<&'a str>,
+    log_why: bool,
 }
 
 /// Runs the command that the words ask for, of which the first is the program's name.
@@ -128,6 +130,7 @@ pub fn run_metered<
                 record,
                 log_time,
                 numbers,
+                log_why,
             },
         ) => {
             let paths = Paths {
@@ -135,6 +138,7 @@ pub fn run_metered<
                 record,
                 log_time,
                 numbers,
+                log_why,
             };
             run_serve(rt, file, Term { ticks, status }, paths, writer, errors)
         }
@@ -267,7 +271,7 @@ fn serve_steered<
     ensures understood { (result ≢ Status.CommandLine) × (result ≢ Status.Refused)
         × (result ≢ Status.Settings) }
 {
-    match gauges_for(rt, file, paths.control) {
+    match gauges_for(rt, file, paths) {
         Ok(mut run_status) => {
             set_kept(&mut run_status, keeper);
             let status = serve_recorded(rt, file, term, paths, &mut run_status, writer, errors);
@@ -341,19 +345,21 @@ fn set_kept(run_status: &mut RunStatus, keeper: Option<NumberKeeper>) {
     }
 }
 
-/// What a run shows that is steered at the path, if there is one.
+/// What a run shows that is steered at a path, if there is one, and of whose legs is said why nothing comes, if it is to be.
 fn gauges_for<R: AllocGlobal + Files + Net + Threads + time::Clock>(
     rt: &R,
     file: &ServedFile,
-    control: Option<&str>,
+    paths: Paths<'_>,
 ) -> Result<RunStatus, ControlFault> {
-    match control {
-        Some(path) => {
-            let (digest, first) = (file.digest.as_slice(), file.first.as_slice());
-            open_control(rt, path, &file.settings, digest, first)
-        }
-        None => Ok(RunStatus::new()),
+    if paths.control.is_none() && !paths.log_why {
+        return Ok(RunStatus::new());
     }
+    let (digest, first) = (file.digest.as_slice(), file.first.as_slice());
+    let run_status = open_control(rt, paths.control, &file.settings, digest, first)?;
+    if paths.log_why {
+        run_status.log_changes();
+    }
+    Ok(run_status)
 }
 
 /// Takes the socket's file away from the path, if there is one.

@@ -9,6 +9,7 @@ use Rattle.stats.specs.declared.reports.ReceptionReport.{ReceptionReport}
 use Rattle.stats.specs.ReportLines.{line_of_leg_report}
 use Rattle.diagnosis.specs.declared.reasons.Reason.{Reason}
 use Rattle.diagnosis.specs.declared.reasons.Reason.TheVariants.{Off, OtherSource, OtherPlace, PublisherAbsent, NoMedia, SubscriberAbsent, Skipped, Reported, OnlyListens, Unreported}
+use Rattle.diagnosis.specs.Kinds.{kind_of, kind_words}
 use Rattle.diagnosis.specs.Reasons.{report_in}
 use Rattle.diagnosis.specs.declared.sightings.StraySource.{StraySource}
 
@@ -18,18 +19,6 @@ leg_words leg publisher subscriber =
     codes "leg "
     ++ (decimal leg
     ++ (codes " from " ++ (publisher ++ (codes " to " ++ (subscriber ++ codes ": ")))))
-
-abbrev pub opening_words : Reason → List ℕ
-opening_words Off = codes "off"
-opening_words (OtherSource source ago) = codes "from the publisher's address packets come under SSRC "
-opening_words (OtherPlace address ago) = codes "under the publisher's SSRC packets come from "
-opening_words (PublisherAbsent ago) = codes "the publisher is absent"
-opening_words (NoMedia ago) = codes "the publisher sends no media"
-opening_words (SubscriberAbsent ago) = codes "the subscriber is absent"
-opening_words (Skipped rate) = codes "packets come and are skipped: "
-opening_words (Reported rate report) = codes "sent; the subscriber reports"
-opening_words (OnlyListens rate ago) = codes "sent; the subscriber only listens"
-opening_words (Unreported rate ago) = codes "sent; the subscriber doesn't report"
 
 -- how long ago the last came
 abbrev pub ago_words : ℕ → List ℕ
@@ -73,7 +62,7 @@ detail_words (Unreported rate ago) = last_words ago ++ rate_words rate
 abbrev pub line_of_reason : ℕ → List ℕ → List ℕ → Reason → List ℕ
 line_of_reason leg publisher subscriber reason =
     leg_words leg publisher subscriber
-    ++ (opening_words reason ++ (detail_words reason ++ codes "\n"))
+    ++ (kind_words (kind_of reason) ++ (detail_words reason ++ codes "\n"))
 
 -- what was reported of the leg
 abbrev pub reported_line : LegLine → Option ReceptionReport → ℕ → List ℕ

@@ -1,5 +1,5 @@
 -- What was seen of an endpoint's media: its own, and what may be its own though it isn't heard as such.
-use Rattle.std.specs.Prelude.{ℕ, ◌==◌, Bool, Option, None, Some, if◌then◌else◌}
+use Rattle.std.specs.Prelude.{ℕ, ◌==◌, Bool, None, Some, if◌then◌else◌}
 use Rattle.std.specs.declared.net.socket_addr.SocketAddr.{SocketAddr}
 use Rattle.tmmbr_tuple.specs.declared.ssrc.Ssrc.{Ssrc}
 use Rattle.diagnosis.specs.declared.sightings.Sighting.{Sighting}

@@ -2,7 +2,7 @@
 
 ghost use Rattle.std.specs.Prelude.{◌≡◌, ◌++◌, IfOk, OnOk};
 ghost use Rattle.std.specs.String.{string_bytes};
-ghost use Rattle.diagnosis.specs.ReasonLine.{detail_words, endpoint_words, heard_words, last_words, leg_words, line_of_reason, line_of_stray, lines_of_reason, opening_words, place_words, rate_words, reported_line, source_words};
+ghost use Rattle.diagnosis.specs.ReasonLine.{detail_words, endpoint_words, heard_words, last_words, leg_words, line_of_reason, line_of_stray, lines_of_reason, place_words, rate_words, reported_line, source_words};
 
 use crate::reasons::Reason;
 use crate::sightings::StraySource;
@@ -11,8 +11,25 @@ use std::alloc::{AllocError, Global};
 use std::net::SocketAddr;
 use tmmbr_tuple::Ssrc;
 
-/// The line of a leg: between whom it is, by their names, and the reason. If its subscriber reports, that is followed by what it reported last,
-/// and how many milliseconds before this moment. Refused for want of memory alone.
+/// The line of a leg: between whom it is, by their names, and the reason. Refused for want of memory alone.
+pub fn line_of_reason(
+    alloc: Global,
+    leg: u16,
+    names: LegNames<'_>,
+    reason: Reason,
+) -> Result<String, AllocError>
+    ensures { IfOk result (λ text. string_bytes text ≡ line_of_reason leg
+        names.entry.publisher.now names.entry.subscriber.now reason) }
+{
+    let mut text = leg_words(alloc, leg, names.publisher, names.subscriber)?;
+    text.push_str(reason.kind().words())?;
+    push_detail(&mut text, reason)?;
+    text.push_str("\n")?;
+    Ok(text)
+}
+
+/// The same line. If the leg's subscriber reports, it is followed by what that reported last, and how many milliseconds before this moment.
+/// Refused for want of memory alone.
 pub fn reason_lines(
     alloc: Global,
     line: LegLine,
@@ -23,7 +40,7 @@ pub fn reason_lines(
     ensures { IfOk result (λ text. string_bytes text ≡ lines_of_reason line
         names.entry.publisher.now names.entry.subscriber.now reason moment) }
 {
-    let mut text = reason_line(alloc, line.leg, names, reason)?;
+    let mut text = line_of_reason(alloc, line.leg, names, reason)?;
     push_report(alloc, &mut text, line, reason.report(), moment)?;
     Ok(text)
 }
@@ -48,23 +65,6 @@ fn push_report(
     }
 }
 
-/// The line of a leg.
-fn reason_line(
-    alloc: Global,
-    leg: u16,
-    names: LegNames<'_>,
-    reason: Reason,
-) -> Result<String, AllocError>
-    ensures { IfOk result (λ text. string_bytes text ≡ line_of_reason leg
-        names.entry.publisher.now names.entry.subscriber.now reason) }
-{
-    let mut text = leg_words(alloc, leg, names.publisher, names.subscriber)?;
-    text.push_str(opening_words(reason))?;
-    push_detail(&mut text, reason)?;
-    text.push_str("\n")?;
-    Ok(text)
-}
-
 /// Which leg it is.
 fn leg_words(
     alloc: Global,
@@ -76,24 +76,6 @@ fn leg_words(
         ≡ leg_words leg publisher.now subscriber.now) }
 {
     format!(in alloc; "leg {leg} from {publisher} to {subscriber}: ")
-}
-
-/// What the reason is.
-fn opening_words(reason: Reason) -> &'static str
-    ensures { result.now ≡ opening_words reason }
-{
-    match reason {
-        Reason::Off => "off",
-        Reason::OtherSource(..) => "from the publisher's address packets come under SSRC ",
-        Reason::OtherPlace(..) => "under the publisher's SSRC packets come from ",
-        Reason::PublisherAbsent(_) => "the publisher is absent",
-        Reason::NoMedia(_) => "the publisher sends no media",
-        Reason::SubscriberAbsent(_) => "the subscriber is absent",
-        Reason::Skipped(_) => "packets come and are skipped: ",
-        Reason::Reported(..) => "sent; the subscriber reports",
-        Reason::OnlyListens(..) => "sent; the subscriber only listens",
-        Reason::Unreported(..) => "sent; the subscriber doesn't report",
-    }
 }
 
 /// What is said of it more closely.

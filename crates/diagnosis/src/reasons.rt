@@ -5,6 +5,7 @@ ghost use Rattle.diagnosis.specs.Reasons.{age_at, flow_rate, is_silent, no_media
 
 use crate::facts::LegFacts;
 use crate::flow::each_second;
+use crate::kinds::ReasonKind;
 use crate::sightings::{StrayPlace, StraySource};
 use stats::ReceptionReport;
 use std::net::SocketAddr;
@@ -40,7 +41,26 @@ pub enum Reason {
 
 impl Reason {
     ghost use Rattle.std.specs.Prelude.{◌≡◌};
+    ghost use Rattle.diagnosis.specs.Kinds.{kind_of};
     ghost use Rattle.diagnosis.specs.Reasons.{report_in};
+
+    /// Which of the reasons it is.
+    pub fn kind(self) -> ReasonKind
+        ensures { result ≡ kind_of self }
+    {
+        match self {
+            Reason::Off => ReasonKind::Off,
+            Reason::OtherSource(..) => ReasonKind::OtherSource,
+            Reason::OtherPlace(..) => ReasonKind::OtherPlace,
+            Reason::PublisherAbsent(_) => ReasonKind::PublisherAbsent,
+            Reason::NoMedia(_) => ReasonKind::NoMedia,
+            Reason::SubscriberAbsent(_) => ReasonKind::SubscriberAbsent,
+            Reason::Skipped(_) => ReasonKind::Skipped,
+            Reason::Reported(..) => ReasonKind::Reported,
+            Reason::OnlyListens(..) => ReasonKind::OnlyListens,
+            Reason::Unreported(..) => ReasonKind::Unreported,
+        }
+    }
 
     /// What the subscriber reported last, if that is the reason.
     pub fn report(self) -> Option<ReceptionReport>

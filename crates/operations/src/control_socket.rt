@@ -23,11 +23,11 @@ use std::time;
 /// Only its owner may connect to the socket.
 const MODE: u32 = 0o600;
 
-/// Listens at the path, for a unit of these settings, which come from a file with this SHA-256, but for these first numbers of its legs, if
-/// there are any. A socket file that a dead unit left is replaced.
+/// Listens at the path, if there is one, for a unit of these settings, which come from a file with this SHA-256, but for these first numbers of
+/// its legs, if there are any. A socket file that a dead unit left is replaced.
 pub fn open_control<R: AllocGlobal + Files + Net + Threads + time::Clock>(
     rt: &R,
-    path: &str,
+    path: Option<&str>,
     file: &ServedSettings,
     digest: &[u8],
     first: &[u16],
@@ -38,7 +38,7 @@ pub fn open_control<R: AllocGlobal + Files + Net + Threads + time::Clock>(
     let Ok(endpoints) = listed(rt.alloc(), file) else {
         return Err(ControlFault::NoMemory);
     };
-    let listener = listen(rt, path)?;
+    let listener = listener_at(rt, path)?;
     let Ok(legs) = legs_of(rt.alloc(), &file.settings) else {
         return Err(ControlFault::NoMemory);
     };
@@ -97,6 +97,17 @@ fn address_at_first(location: Location, listen: SocketAddr) -> SocketAddr {
             };
             SocketAddr::new(nobody, 0)
         }
+    }
+}
+
+/// A listener at the path, if there is one.
+fn listener_at<R: Files + Net>(
+    rt: &R,
+    path: Option<&str>,
+) -> Result<Option<UnixListener>, ControlFault> {
+    match path {
+        Some(path) => Ok(Some(listen(rt, path)?)),
+        None => Ok(None),
     }
 }
 

@@ -3,11 +3,12 @@
 //! Read `run_status` first, what a run shows, and what peers want of it. `control_socket` is where a unit is steered, `steering` who does that,
 //! `steered` how they see the room, `report_answers` texts of answers, `metrics_text` the unit's metrics. `unit_info` is what endpoints are
 //! called, with the clocks of what they send (`clock_rate`). `following` is who is told what happens, `diagnosing` what is known of why nothing
-//! comes on a leg (`diagnosis`). `record_file` opens what a record of the unit goes to (`recording`). `number_keeper` notes with which numbers
-//! legs begin after the next start (`leg_numbers`). `status_lines` are the lines of counts and of the control, and `lines` are written by a thread
-//! for which nobody waits, after the time of day (`wall_time`).
+//! comes on a leg (`diagnosis`), `changes` what is said of that unasked. `record_file` opens what a record of the unit goes to (`recording`).
+//! `number_keeper` notes with which numbers legs begin after the next start (`leg_numbers`). `status_lines` are the lines of counts and those
+//! beside them, and `lines` are written by a thread for which nobody waits, after the time of day (`wall_time`).
 #![tactic(auto)]
 
+mod changes;
 mod clock_rate;
 mod control_socket;
 mod diagnosing;

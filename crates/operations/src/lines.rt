@@ -124,16 +124,19 @@ pub struct TimedLines<'a, R: time::Clock, W: Drop> {
 }
 
 impl<R: AllocGlobal + time::Clock, W: Drop> TimedLines<'_, R, W> {
-    /// The line after the time.
-    fn timed(&self, line: &[u8]) -> Result<Vec<u8>, AllocError> {
+    /// Each of the lines after the time.
+    fn timed(&self, lines: &[u8]) -> Result<Vec<u8>, AllocError> {
         let alloc = self.rt.alloc();
+        let time = match unix_seconds(self.rt) {
+            Some(seconds) => time_text(alloc, seconds)?,
+            None => return Vec::from_slice(alloc, lines),
+        };
         let mut timed = Vec::new(alloc);
-        if let Some(seconds) = unix_seconds(self.rt) {
-            let time = time_text(alloc, seconds)?;
+        for line in lines.split_inclusive(|byte| *byte == b'\n') {
             timed.extend_from_slice(time.as_bytes())?;
             timed.extend_from_slice(b" ")?;
+            timed.extend_from_slice(line)?;
         }
-        timed.extend_from_slice(line)?;
         Ok(timed)
     }
 }

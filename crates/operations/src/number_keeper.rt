@@ -3,20 +3,23 @@
 ghost use Rattle.std.specs.Prelude.{◌≡◌, IfOk};
 
 use crate::lines::ErrorOutput;
-use leg_numbers::{NumbersFault, first_after, numbers_file};
+use leg_numbers::{NumbersFault, WriteNotice, first_after, numbers_file};
 use stats::Traffic;
 use std::alloc::{AllocError, Global};
 use std::io::{self, ErrorKind, Read, Write};
 use std::net::{Net, Shutdown};
 use std::os::unix::net::UnixStream;
 use std::sync::Arc;
-use std::sync::atomic::{AtomicU16, Ordering};
+use std::sync::atomic::{AtomicBool, AtomicU16, Ordering};
 use std::thread::{self, JoinHandle, Threads};
 
-/// With which number each leg begins after the next start. The thread that receives writes them, another one reads them.
+/// What the thread that receives and the one that writes a file tell each other.
 #[derive(Drop)]
-struct FirstNumbers {
+struct SharedNumbers {
+    /// With which number each leg begins after the next start.
     cells: Vec<AtomicU16>,
+    /// Whether the last note couldn't be written.
+    has_failed: AtomicBool,
 }
 
 /// Notes with which number each leg begins after the next start.
@@ -24,7 +27,8 @@ struct FirstNumbers {
 pub struct NumberKeeper {
     /// By the number of each leg the number after its newest, at the last note; the one with which it begins while nothing was sent on it.
     next: Vec<u16>,
-    first: Arc<FirstNumbers, Global>,
+    first: Arc<SharedNumbers, Global>,
+    notice: WriteNotice,
     /// Rings there for each note.
     bell: UnixStream,
     thread: JoinHandle<()>,
@@ -38,7 +42,7 @@ struct NumberWriter<W: Drop> {
     file: W,
     /// The SHA-256 of the settings.
     digest: Vec<u8>,
-    first: Arc<FirstNumbers, Global>,
+    first: Arc<SharedNumbers, Global>,
     bell: UnixStream,
 }
 
@@ -64,6 +68,7 @@ pub fn open_numbers<R: AllocGlobal + ErrorOutput + Net + Threads>(
         Some(thread) => Ok(NumberKeeper {
             next: first,
             first: cells,
+            notice: WriteNotice::new(),
             bell,
             thread,
         }),
@@ -84,7 +89,7 @@ fn writer_of<R: AllocGlobal + ErrorOutput>(
     rt: &R,
     path: &str,
     digest: &[u8],
-    first: Arc<FirstNumbers, Global>,
+    first: Arc<SharedNumbers, Global>,
     bell: UnixStream,
 ) -> Result<NumberWriter<R::Replaced>, AllocError> {
     Ok(NumberWriter {
@@ -115,23 +120,26 @@ fn beside_of(alloc: Global, path: &str) -> Result<String, AllocError> {
 fn cells_of(
     alloc: Global,
     first: &[u16],
-) -> Result<(Arc<FirstNumbers, Global>, Arc<FirstNumbers, Global>), AllocError> {
+) -> Result<(Arc<SharedNumbers, Global>, Arc<SharedNumbers, Global>), AllocError> {
     let mut cells = Vec::with_capacity(alloc, first.len())?;
     for number in first {
         cells.push(AtomicU16::new(first_after(*number, 0)))?;
     }
-    let first = Arc::new(alloc, FirstNumbers { cells })?;
+    let has_failed = AtomicBool::new(false);
+    let first = Arc::new(alloc, SharedNumbers { cells, has_failed })?;
     let shared = Arc::try_clone(&first)?;
     Ok((first, shared))
 }
 
 impl NumberKeeper {
-    /// Notes what the legs begin with after what was sent on them by now.
-    pub(crate) fn note(&mut self, traffic: &Traffic) {
+    /// Notes what the legs begin with after what was sent on them by now. Whether it is to be said that the note before couldn't be written.
+    pub(crate) fn note(&mut self, traffic: &Traffic) -> bool {
         for leg in 0..self.next.len() {
             self.note_leg(leg, traffic);
         }
+        let has_failed = self.first.has_failed.load(Ordering::SeqCst);
         let _ = self.bell.write(b"\n");
+        self.notice.take(has_failed)
     }
 
     /// The same of this leg.
@@ -166,7 +174,8 @@ fn write_numbers<W: Write + Drop>(writer: NumberWriter<W>) {
     let mut writer = writer;
     for _ring in 0..u64::MAX {
         let is_over = writer.is_over();
-        let _ = writer.write();
+        let is_written = writer.write();
+        writer.first.has_failed.store(!is_written, Ordering::SeqCst);
         if is_over {
             return;
         }

@@ -41,6 +41,8 @@ pub struct RunStatus {
     pub log_time: Cell<bool>,
     /// Whether it is to be said that no descriptor is left for who connects to the control.
     shortage: Cell<bool>,
+    /// Whether it is to be said that the numbers of legs couldn't be written.
+    unwritten: Cell<bool>,
     /// One more than what the system dropped at the sockets, and 0 while that isn't known; nothing if nobody looks.
     unread: RefCell<Option<Arc<AtomicU64, Global>>>,
     /// Who steers the run, if anybody may.
@@ -56,7 +58,7 @@ pub struct RunStatus {
 }
 
 impl RunStatus {
-    ghost use Rattle.std.specs.Prelude.{◌≡◌, None, IsSome, is_some};
+    ghost use Rattle.std.specs.Prelude.{◌≡◌, ◌||◌, None, IsSome, is_some};
 
     /// Those of a run that begins.
     pub fn new() -> RunStatus
@@ -74,6 +76,7 @@ impl RunStatus {
             moment_ms: Cell::new(0),
             log_time: Cell::new(false),
             shortage: Cell::new(false),
+            unwritten: Cell::new(false),
             unread: RefCell::new(None),
             steering: None,
             recorder: None,
@@ -131,7 +134,9 @@ impl RunStatus {
         if let Some(keeper) = &self.keeper {
             self.numbers_due_ms.set(moment.saturating_add(NOTE_MS));
             if let Ok(mut keeper) = keeper.try_borrow_mut() {
-                keeper.note(traffic);
+                if keeper.note(traffic) {
+                    self.unwritten.set(true);
+                }
             }
         }
     }
@@ -221,6 +226,13 @@ impl RunStatus {
         self.steering.is_some()
     }
 
+    /// Whether the run may have something to say beside counts.
+    pub fn has_lines(&self) -> bool
+        ensures { result ≡ is_some self.now.steering || is_some self.now.keeper }
+    {
+        self.is_steered() || self.keeper.is_some()
+    }
+
     /// Who steers the run.
     pub(crate) fn steering(&self) -> Option<RefMut<'_, Steering>>
         ensures { self.now.steering ≡ None → IsNone result }
@@ -273,16 +285,44 @@ impl RunStatus {
         Received::Nothing
     }
 
-    /// Whether it is to be said that no descriptor is left for who connects to the control.
-    pub(crate) fn has_shortage(&self) -> bool {
-        self.shortage.get()
+    /// Whether anything is to be said beside counts: of the control, of the numbers of legs, or of why nothing comes on them.
+    pub(crate) fn has_news(&self) -> bool {
+        self.shortage.get() || self.unwritten.get() || self.has_changes()
     }
 
-    /// The same; from now on it isn't, until that is so again.
+    /// Whether it is to be said that no descriptor is left for who connects to the control. From now on it isn't, until that is so again.
     pub(crate) fn take_shortage(&self) -> bool {
         let is_short = self.shortage.get();
         self.shortage.set(false);
         is_short
+    }
+
+    /// Whether it is to be said that the numbers of legs couldn't be written. From now on it isn't, until that is so again.
+    pub(crate) fn take_unwritten(&self) -> bool {
+        let is_unwritten = self.unwritten.get();
+        self.unwritten.set(false);
+        is_unwritten
+    }
+
+    /// From now on it is said of a leg why nothing comes on it, or what is sent, when that changes.
+    pub fn log_changes(&self) {
+        if let Some(mut steering) = self.steering() {
+            steering.log_changes();
+        }
+    }
+
+    /// Whether that is to be said of a leg.
+    fn has_changes(&self) -> bool {
+        match self.steering() {
+            Some(steering) => steering.has_changes(),
+            None => false,
+        }
+    }
+
+    /// The lines that say it. From now on they aren't to be said.
+    pub(crate) fn take_changes(&self) -> Option<String> {
+        let mut steering = self.steering()?;
+        steering.take_changes()
     }
 
     /// Whether somebody waits for the totals.
@@ -362,12 +402,12 @@ impl RunStatus {
         }
     }
 
-    /// What somebody wants to see of the room. What went out on legs is looked at, if that is due.
+    /// What somebody wants to see of the room. What went out on legs is looked at, and what is to be said of them, if that is due.
     pub(crate) fn look(&self, traffic: &Traffic) -> Look {
         match self.steering() {
             Some(mut steering) => {
                 let moment = self.moment_ms.get();
-                steering.look_at_flow(traffic, moment);
+                steering.look_at_legs(traffic, moment);
                 steering.look(moment)
             }
             None => Look::Nothing,

@@ -1,9 +1,10 @@
-//! The lines that `sfu serve` writes while the unit runs: those of counts, and what its control says.
+//! The lines that `sfu serve` writes while the unit runs: those of counts, and what is said beside them.
 
 ghost use Rattle.std.specs.Prelude.{◌≡◌};
 
 use crate::run_status::RunStatus;
 use control_protocol::{RecordKind, Screened, shortage_text};
+use leg_numbers::unwritten_text;
 use ports::{Status, Watch};
 use recording::end_name;
 use std::alloc::{AllocError, Global};
@@ -56,12 +57,12 @@ impl<'a, E: Write> StatusLines<'a, E> {
         Ok(())
     }
 
-    /// Writes this line. If it can't be written it is left out, and counted.
-    fn put(&mut self, line: &[u8])
+    /// Writes these lines. If they can't be written they are left out, and counted.
+    fn put(&mut self, lines: &[u8])
         ensures { (self.new.every_ms ≡ self.old.every_ms) × (self.new.due_ms ≡ self.old.due_ms) }
     {
-        if self.errors.write_all(line).is_err() {
-            self.unsaid = self.unsaid.saturating_add(1);
+        if self.errors.write_all(lines).is_err() {
+            self.unsaid = self.unsaid.saturating_add(lines_in(lines));
         }
     }
 
@@ -71,6 +72,24 @@ impl<'a, E: Write> StatusLines<'a, E> {
     {
         if self.run_status.take_shortage() {
             self.put(shortage_text().as_bytes());
+        }
+    }
+
+    /// Says that the numbers of legs couldn't be written, if that is to be said.
+    fn say_unwritten(&mut self)
+        ensures { (self.new.every_ms ≡ self.old.every_ms) × (self.new.due_ms ≡ self.old.due_ms) }
+    {
+        if self.run_status.take_unwritten() {
+            self.put(unwritten_text().as_bytes());
+        }
+    }
+
+    /// Says of each leg why nothing comes on it, or what is sent, if that is to be said.
+    fn say_changes(&mut self)
+        ensures { (self.new.every_ms ≡ self.old.every_ms) × (self.new.due_ms ≡ self.old.due_ms) }
+    {
+        if let Some(lines) = self.run_status.take_changes() {
+            self.put(lines.as_bytes());
         }
     }
 
@@ -184,7 +203,12 @@ impl<E: Write> Watch for StatusLines<'_, E> {
     }
 }
 
-/// Lines of counts, and beside them what the control of the unit says.
+/// How many lines these are, each with its end.
+fn lines_in(lines: &[u8]) -> u64 {
+    lines.iter().filter(|byte| **byte == b'\n').count() as u64
+}
+
+/// Lines of counts, and beside them what is said of the control, of the legs and of their numbers.
 #[derive(Drop)]
 pub struct ControlLines<'a, E: Write> {
     counts: StatusLines<'a, E>,
@@ -193,7 +217,7 @@ pub struct ControlLines<'a, E: Write> {
 impl<'a, E: Write> ControlLines<'a, E> {
     ghost use Rattle.std.specs.Prelude.{◌≡◌};
 
-    /// Lines of counts that are written each `every_ms` milliseconds, and those of a control whenever it has something to say.
+    /// Lines of counts that are written each `every_ms` milliseconds, and the others whenever there is something to say.
     pub fn new(
         alloc: Global,
         errors: &'a mut E,
@@ -214,7 +238,7 @@ impl<E: Write> Watch for ControlLines<'_, E> {
     fn is_due(&self, moment: u64) -> bool
         ensures { self.now.counts.due_ms ≤ moment → IsTrue result }
     {
-        self.counts.is_due(moment) || self.counts.run_status.has_shortage()
+        self.counts.is_due(moment) || self.counts.run_status.has_news()
     }
 
     fn show(&mut self, moment: u64, status: &Status)
@@ -225,6 +249,8 @@ impl<E: Write> Watch for ControlLines<'_, E> {
         ensures every { self.new.counts.every_ms ≡ self.old.counts.every_ms }
     {
         self.counts.say_shortage();
+        self.counts.say_unwritten();
+        self.counts.say_changes();
         if self.counts.is_due(moment) {
             self.counts.show(moment, status);
         }

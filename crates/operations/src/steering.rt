@@ -4,6 +4,7 @@ ghost use Rattle.std.specs.Prelude.{◌≡◌, None, IfOk, length, map, replicat
 
 mod showing;
 
+use crate::changes::ChangeLog;
 use crate::diagnosing::Diagnosing;
 use crate::following::Following;
 use crate::report_answers::strangers_text;
@@ -37,7 +38,8 @@ pub struct EndpointInfo {
 #[derive(Drop)]
 pub struct Steering {
     alloc: Global,
-    listener: UnixListener,
+    /// Where peers come; `None` if nobody may.
+    listener: Option<UnixListener>,
     peers: Peers<UnixStream>,
     legs: Vec<LegLine>,
     /// Whether each leg was selected at the start.
@@ -64,6 +66,7 @@ pub struct Steering {
     diagnosing: Diagnosing,
     /// Who follows what happens.
     following: Following<UnixStream>,
+    changes: ChangeLog,
 }
 
 /// What a peer wants.
@@ -95,6 +98,8 @@ enum OpenQuestion {
     Why(Option<u16>),
     /// What happened since those who follow were told last.
     News,
+    /// What is to be said of legs unasked: nobody waits for an answer.
+    Changes,
     /// The unit stops: nobody waits for an answer, and who is present is to be known.
     Stop,
 }
@@ -105,10 +110,10 @@ impl Steering {
     ghost use Rattle.control_protocol.specs.declared.shortage.TheConstants.{SHORTAGE_EACH_MS};
     ghost use Rattle.operations.specs.declared.steering.OpenQuestion.TheVariants.{Nothing};
 
-    /// Steers a unit with these legs and these endpoints, by those who come to the listener.
+    /// Steers a unit with these legs and these endpoints, by those who come to the listener, if anybody may.
     pub fn new(
         alloc: Global,
-        listener: UnixListener,
+        listener: Option<UnixListener>,
         legs: Vec<LegLine>,
         endpoints: Vec<EndpointInfo>,
         unit: UnitInfo,
@@ -126,6 +131,7 @@ impl Steering {
         let began_on = selected_at_first(alloc, legs.as_slice())?;
         let flooded = vec![in alloc; 0; endpoints.len()]?;
         let diagnosing = Diagnosing::new(alloc, endpoints.len(), legs.len())?;
+        let changes = ChangeLog::new(alloc, legs.len())?;
         Ok(Steering {
             alloc,
             listener,
@@ -145,6 +151,7 @@ impl Steering {
             flooded,
             diagnosing,
             following: Following::new(alloc),
+            changes,
         })
     }
 
@@ -231,7 +238,10 @@ impl Steering {
     /// for who comes.
     fn admit(&mut self, moment: u64) -> bool {
         for _comer in 0..TAKEN_IN {
-            match self.listener.accept() {
+            let Some(listener) = &self.listener else {
+                return false;
+            };
+            match listener.accept() {
                 Ok((stream, _)) => self.take_in(stream, moment),
                 Err(error) => return says_shortage(error.raw_os_error(), &mut self.said, moment),
             }
@@ -300,9 +310,28 @@ impl Steering {
         self.diagnosing.note_packet(endpoint, own, source, moment);
     }
 
-    /// Looks at what went out on each leg, if that is due.
-    pub(crate) fn look_at_flow(&mut self, traffic: &Traffic, moment: u64) {
+    /// Looks at what went out on each leg, if that is due. Unless somebody waits for an answer, what is to be said of legs is looked for, if that is
+    /// due.
+    pub(crate) fn look_at_legs(&mut self, traffic: &Traffic, moment: u64) {
         self.diagnosing.look(traffic, moment);
+        if self.asked == OpenQuestion::Nothing && self.changes.take_due(moment) {
+            self.begin(OpenQuestion::Changes);
+        }
+    }
+
+    /// From now on it is said of a leg why nothing comes on it, or what is sent, when that changes.
+    pub(crate) fn log_changes(&mut self) {
+        self.changes.turn_on();
+    }
+
+    /// Whether that is to be said of a leg.
+    pub(crate) fn has_changes(&self) -> bool {
+        self.changes.has_lines()
+    }
+
+    /// The lines that say it. From now on they aren't to be said.
+    pub(crate) fn take_changes(&mut self) -> Option<String> {
+        self.changes.take_lines()
     }
 
     /// A datagram of this endpoint came beyond the limit.

@@ -41,10 +41,10 @@ abbrev pub turns_by : Option ℕ → ℕ
 turns_by None = 2 ^ 64 - 1
 turns_by (Some count) = count
 
--- How far apart lines of counts are, in milliseconds, if anything is written while a unit runs: as good as none are where it is steered and no
--- line of counts is wanted, since its control may say something. Else nothing is.
+-- How far apart lines of counts are, in milliseconds, if anything is written while a unit runs: as good as none are where it may have other lines
+-- and none of counts is wanted. Else nothing is.
 abbrev pub said_each : Option ℕ → Bool → Option ℕ
-said_each (Some seconds) is_steered = Some (seconds * 1000)
+said_each (Some seconds) has_lines = Some (seconds * 1000)
 said_each None true = Some (2 ^ 64 - 1)
 said_each None false = None
 

@@ -85,8 +85,8 @@ impl Bound {
     }
 }
 
-/// Binds the sockets that the settings name, says so on the error output, and serves the endpoints. Lines of counts, and of the control, go to the
-/// runtime's error output by a thread of their own, so that nobody waits for who reads them.
+/// Binds the sockets that the settings name, says so on the error output, and serves the endpoints. Lines of counts, and what is said beside them, go
+/// to the runtime's error output by a thread of their own, so that nobody waits for who reads them.
 pub fn serve_file<
     R: AllocGlobal + ErrorOutput + Files<File = File> + Net + Threads + Wait + Sync + time::Clock,
     O: Write,
@@ -189,7 +189,7 @@ fn serve_bound<
     status
 }
 
-/// Serves them with lines of counts and of the control, if there are to be any.
+/// Serves them with lines, if there are to be any.
 fn serve_lined<
     R: AllocGlobal + ErrorOutput + Net + Threads + Wait + Sync + time::Clock,
     O: Write,
@@ -218,7 +218,7 @@ fn serve_lined<
         turns: term.turns(),
         tick_ms: file.tick_ms,
     };
-    let each_ms = said_each(term.status, run_status.is_steered());
+    let each_ms = said_each(term.status, run_status.has_lines());
     match each_ms {
         Some(every_ms) => match Lines::new(rt) {
             Ok(mut lines) => {
@@ -245,14 +245,14 @@ fn serve_lined<
     }
 }
 
-/// How many milliseconds lie between two lines of counts, if anything is to be written while the unit runs. A unit that is steered without
-/// `--status` may have lines of its control, and none of counts.
-fn said_each(status: Option<u32>, is_steered: bool) -> Option<u64>
-    ensures { result ≡ said_each status is_steered }
+/// How many milliseconds lie between two lines of counts, if anything is to be written while the unit runs. Without `--status` it may have other
+/// lines, and none of counts.
+fn said_each(status: Option<u32>, has_lines: bool) -> Option<u64>
+    ensures { result ≡ said_each status has_lines }
 {
     match status {
         Some(seconds) => Some(u64::from(seconds) * 1000),
-        None if is_steered => Some(u64::MAX),
+        None if has_lines => Some(u64::MAX),
         None => None,
     }
 }

@@ -29,6 +29,7 @@ impl Steering {
             | OpenQuestion::Refusals
             | OpenQuestion::Why(_)
             | OpenQuestion::News
+            | OpenQuestion::Changes
             | OpenQuestion::Stop => Look::Presence,
             OpenQuestion::Legs | OpenQuestion::LegMetrics => Look::Stays,
             OpenQuestion::Nothing | OpenQuestion::Counts => Look::Nothing,
@@ -151,6 +152,10 @@ impl Steering {
                 let present = self.present.as_slice();
                 self.following.tell(present, traffic, moment);
             }
+            OpenQuestion::Changes => {
+                self.asked = OpenQuestion::Nothing;
+                let _ = self.note_changes(traffic, moment);
+            }
             OpenQuestion::Nothing
             | OpenQuestion::Counts
             | OpenQuestion::Legs
@@ -208,6 +213,37 @@ impl Steering {
         {
             Some(reason) => reason_lines(self.alloc, line, self.unit.ends(line), reason, moment),
             None => Err(AllocError),
+        }
+    }
+
+    /// Of each leg is noted why its subscriber sees nothing at this moment. If memory is wanting the rest is noted a second later.
+    fn note_changes(&mut self, traffic: &Traffic, moment: u64) -> Result<(), AllocError> {
+        for leg in 0..self.legs.len() {
+            self.note_change(leg, traffic, moment)?;
+        }
+        Ok(())
+    }
+
+    /// The same of this leg.
+    fn note_change(
+        &mut self,
+        leg: usize,
+        traffic: &Traffic,
+        moment: u64,
+    ) -> Result<(), AllocError> {
+        let Some(line) = self.legs.get(leg).copied() else {
+            return Ok(());
+        };
+        let (endpoints, present) = (self.endpoints.as_slice(), self.present.as_slice());
+        match self
+            .diagnosing
+            .reason(line, endpoints, present, traffic, moment)
+        {
+            Some(reason) => {
+                self.changes
+                    .note(self.alloc, line.leg, self.unit.ends(line), reason, moment)
+            }
+            None => Ok(()),
         }
     }
 

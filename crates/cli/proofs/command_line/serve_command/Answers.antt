@@ -21,7 +21,9 @@ returns-clause-app c =
     let app-6 : App = with_rule app-5 (flag_rule (codes "record-next")) in
     let made-7 = c.asking-serve-7.ensures.shape app-6 (word_rule (codes "numbers")) made-6 c.optional_word-3.ensures.rule c.optional_word-3.ensures.local in
     let app-7 : App = with_rule app-6 (word_rule (codes "numbers")) in
-    c.asking.ensures.shape app-7 (flag_rule (codes "log-time")) made-7 c.flag-2.ensures.rule c.flag-2.ensures.local
+    let made-8 = c.asking-serve-8.ensures.shape app-7 (flag_rule (codes "log-time")) made-7 c.flag-2.ensures.rule c.flag-2.ensures.local in
+    let app-8 : App = with_rule app-7 (flag_rule (codes "log-time")) in
+    c.asking.ensures.shape app-8 (flag_rule (codes "log-why")) made-8 c.flag-3.ensures.rule c.flag-3.ensures.local
 
 pub returns-clause-local : goal.returns-clause-local
 returns-clause-local c =
@@ -33,4 +35,5 @@ returns-clause-local c =
     let local-5 = c.asking-serve-5.ensures.local local-4 c.moment.ensures.local in
     let local-6 = c.asking-serve-6.ensures.local local-5 c.flag.ensures.local in
     let local-7 = c.asking-serve-7.ensures.local local-6 c.optional_word-3.ensures.local in
-    c.asking.ensures.local local-7 c.flag-2.ensures.local
+    let local-8 = c.asking-serve-8.ensures.local local-7 c.flag-2.ensures.local in
+    c.asking.ensures.local local-8 c.flag-3.ensures.local
