@@ -72,6 +72,7 @@ def back_again(pair, times, see):
     used, again = set(), 0
     for _ in range(times):
         for part in range(2):
+            pair.say(pair.ann, report(ANN))
             first, moment = random.randrange(65536), random.randrange(2**32)
             for number in range(RUN):
                 pair.say(pair.bob, media(BOB, first + number, moment + 1800 * number))
@@ -100,6 +101,7 @@ def cut_off(pair, times, see):
 
     def run(seconds):
         nonlocal sent, number
+        pair.say(pair.ann, report(ANN))
         for _ in range(int(seconds * RATE)):
             pair.say(pair.bob, media(BOB, number, int((time.monotonic() - start) * CLOCK)))
             sent, number = sent + 1, number + 1
