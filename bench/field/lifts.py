@@ -70,6 +70,8 @@ class Publisher:
     def __init__(self, notifies, loss):
         self.notifies, self.loss = notifies, loss
         self.bounds, self.lifts, self.asks = {}, [], 0
+        # How often in a row each owner's lift was lost, since it was asked for last.
+        self.lost = {}
         self.is_deaf = False
 
     def hears(self, datagram, moment):
@@ -85,9 +87,10 @@ class Publisher:
                 if word == NO_LIMIT:
                     self.lifts.append(moment)
                 self.asks += word != NO_LIMIT
+                self.lost[owner] = self.lost.get(owner, 0) + 1 if word == NO_LIMIT else 0
                 if self.is_deaf or random.random() < self.loss:
                     continue
-                heard = True
+                heard, self.lost[owner] = True, 0
                 self.bounds.pop(owner, None)
                 if word != NO_LIMIT:
                     self.bounds[owner] = word
@@ -204,7 +207,7 @@ def play_many(field, notifies, moments, see):
     for number in range(1, 1 + SUBSCRIBERS):
         field.leave(number)
     field.come(Publisher(notifies, LOSS))
-    there, too_many, missing, tighter = set(), 0, 0, 0
+    there, too_many, missing, tighter, thrice = set(), 0, 0, 0, 0
     for _ in range(moments):
         for _ in range(6):
             number = random.randint(1, SUBSCRIBERS)
@@ -220,12 +223,15 @@ def play_many(field, notifies, moments, see):
             field.say(number, report(ssrc_of(number)))
         field.after(QUIET)
         wanted, kept = field.announced(), field.publisher.bounds
-        gone = {owner for owner in kept if owner not in wanted}
-        too_many += bool(gone)
+        # Without a TMMBN a lift is sent three times: who was lost as often is kept to.
+        lost = {owner for owner in kept if not notifies and owner not in wanted and field.publisher.lost[owner] >= 3}
+        gone = {owner for owner in kept if owner not in wanted} - lost
+        thrice, too_many = thrice + bool(lost), too_many + bool(gone)
         tighter += any(kept[owner] >> 9 < min((word >> 9 for word in wanted.values()), default=1 << 23) for owner in gone)
         missing += any(kept.get(owner) != word for owner, word in wanted.items())
     name = "with TMMBNs" if notifies else "without a TMMBN"
-    see(f"{name}, of {moments} quiet moments an owner too many in", f"{too_many}, tighter than the set in {tighter}, one missing in {missing}", not too_many + missing)
+    seen = f"{too_many}, tighter than the set in {tighter}, one missing in {missing}; one whose lift was lost three times in {thrice}"
+    see(f"{name}, of {moments} quiet moments an owner too many in", seen, not too_many + missing)
 
 
 def main(program, key, moments):
