@@ -23,11 +23,6 @@ abbrev pub age_at : Option ℕ → ℕ → Option ℕ
 age_at None moment = None
 age_at (Some then_ms) moment = Some (moment - then_ms)
 
--- how long before this moment a report passed
-abbrev pub report_age : Option ReceptionReport → ℕ → Option ℕ
-report_age None moment = None
-report_age (Some r) moment = Some (age_of r moment)
-
 -- how many packets a second went out on the leg of late
 abbrev pub flow_rate : LegFacts → ℕ
 flow_rate f = each_second f.flow.packets f.flow.ms
@@ -70,6 +65,15 @@ abbrev pub skipped : LegFacts → Option Reason
 skipped f = if (f.flow.packets == 0) && nat_lt 0 f.flow.skipped
     then Some (Skipped (each_second f.flow.skipped f.flow.ms)) else None
 
+-- a report that isn't shown any more
+abbrev pub silence_reason : ℕ → ℕ → ReceptionReport → Option Reason
+silence_reason rate moment r =
+    if is_shown r moment then None else Some (Unreported rate (Some (age_of r moment)))
+
+-- the subscriber reported, and does no more
+abbrev pub fell_silent : LegFacts → Option Reason
+fell_silent f = option_and_then (silence_reason (flow_rate f) f.moment) f.report
+
 -- a report that is still shown
 abbrev pub report_reason : ℕ → ℕ → ReceptionReport → Option Reason
 report_reason rate moment r =
@@ -82,8 +86,9 @@ abbrev pub subscriber_listens : LegFacts → Option Reason
 subscriber_listens f = if f.subscriber.only_listens
     then Some (OnlyListens (flow_rate f) (age_at f.subscriber.heard_ms f.moment)) else None
 
+-- the subscriber never reported
 abbrev pub unreported : LegFacts → Reason
-unreported f = Unreported (flow_rate f) (report_age f.report f.moment)
+unreported f = Unreported (flow_rate f) None
 
 -- what the subscriber reports, if that is said
 abbrev pub report_in : Reason → Option ReceptionReport
@@ -114,8 +119,9 @@ publisher_trouble f =
 -- what becomes of media that come
 abbrev pub subscriber_state : LegFacts → Option Reason
 subscriber_state f =
-    first_there (subscriber_absent f) (skipped f ∷ (reported f ∷ (subscriber_listens f ∷ [])))
+    first_there (subscriber_absent f)
+    (skipped f ∷ (fell_silent f ∷ (reported f ∷ (subscriber_listens f ∷ []))))
 
--- the first that applies, or else that the subscriber doesn't report
+-- the first that applies, or else that the subscriber never reported
 abbrev pub why : LegFacts → Reason
 why f = unwrap_or (option_or (publisher_trouble f) (subscriber_state f)) (unreported f)

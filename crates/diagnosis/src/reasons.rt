@@ -1,7 +1,7 @@
 //! Why a subscriber sees nothing, or what it is sent.
 
 ghost use Rattle.std.specs.Prelude.{◌≡◌};
-ghost use Rattle.diagnosis.specs.Reasons.{age_at, flow_rate, is_silent, no_media, off, other_place, other_source, place_reason, publisher_absent, publisher_trouble, report_age, report_reason, reported, skipped, source_reason, subscriber_absent, subscriber_listens, subscriber_state, unreported, why};
+ghost use Rattle.diagnosis.specs.Reasons.{age_at, fell_silent, flow_rate, is_silent, no_media, off, other_place, other_source, place_reason, publisher_absent, publisher_trouble, report_reason, reported, silence_reason, skipped, source_reason, subscriber_absent, subscriber_listens, subscriber_state, unreported, why};
 
 use crate::facts::LegFacts;
 use crate::flow::each_second;
@@ -35,7 +35,7 @@ pub enum Reason {
     Reported(u64, ReceptionReport),
     /// So many packets a second are sent to a subscriber that only listens, and was heard so long ago.
     OnlyListens(u64, Option<u64>),
-    /// So many packets a second are sent, and the subscriber reports nothing; it did so long ago.
+    /// So many packets a second are sent, and the subscriber reports nothing; it did so long ago, or never.
     Unreported(u64, Option<u64>),
 }
 
@@ -108,6 +108,7 @@ fn subscriber_state(facts: &LegFacts) -> Option<Reason>
 {
     subscriber_absent(facts)
         .or(skipped(facts))
+        .or(fell_silent(facts))
         .or(reported(facts))
         .or(subscriber_listens(facts))
 }
@@ -203,6 +204,24 @@ fn skipped(facts: &LegFacts) -> Option<Reason>
     }
 }
 
+/// The subscriber reported, and does no more.
+fn fell_silent(facts: &LegFacts) -> Option<Reason>
+    ensures { result ≡ fell_silent facts.now }
+{
+    let report = facts.report?;
+    silence_reason(report, flow_rate(facts), facts.moment)
+}
+
+fn silence_reason(report: ReceptionReport, rate: u64, moment: u64) -> Option<Reason>
+    ensures { result ≡ silence_reason rate moment report }
+{
+    if !report.is_shown(moment) {
+        Some(Reason::Unreported(rate, Some(report.age_ms(moment))))
+    } else {
+        None
+    }
+}
+
 /// The subscriber reports, and did so of late.
 fn reported(facts: &LegFacts) -> Option<Reason>
     ensures { result ≡ reported facts.now }
@@ -233,12 +252,11 @@ fn subscriber_listens(facts: &LegFacts) -> Option<Reason>
     }
 }
 
-/// The subscriber doesn't report.
+/// The subscriber never reported.
 fn unreported(facts: &LegFacts) -> Reason
     ensures { result ≡ unreported facts.now }
 {
-    let reported_ago_ms = report_age(facts.report, facts.moment);
-    Reason::Unreported(flow_rate(facts), reported_ago_ms)
+    Reason::Unreported(flow_rate(facts), None)
 }
 
 /// How many packets a second went out on the leg of late.
@@ -264,16 +282,6 @@ fn age_at(then_ms: Option<u64>, moment: u64) -> Option<u64>
 {
     match then_ms {
         Some(then_ms) => Some(moment.saturating_sub(then_ms)),
-        None => None,
-    }
-}
-
-/// How long before this moment a report passed.
-fn report_age(report: Option<ReceptionReport>, moment: u64) -> Option<u64>
-    ensures { result ≡ report_age report moment }
-{
-    match report {
-        Some(report) => Some(report.age_ms(moment)),
         None => None,
     }
 }
