@@ -6,11 +6,11 @@ use Rattle.std.specs.declared.net.socket_addr.SocketAddr.{SocketAddr}
 use Rattle.tmmbr_tuple.specs.declared.ssrc.Ssrc.{Ssrc}
 use Rattle.stats.specs.declared.lines.LegLine.{LegLine}
 use Rattle.stats.specs.declared.reports.ReceptionReport.{ReceptionReport}
-use Rattle.stats.specs.ReportLines.{line_of_leg_report}
+use Rattle.stats.specs.ReportLines.{line_of_leg_report, line_of_publisher_report}
 use Rattle.diagnosis.specs.declared.reasons.Reason.{Reason}
-use Rattle.diagnosis.specs.declared.reasons.Reason.TheVariants.{Off, OtherSource, OtherPlace, PublisherAbsent, NoMedia, SubscriberAbsent, Skipped, Reported, OnlyListens, Unreported}
+use Rattle.diagnosis.specs.declared.reasons.Reason.TheVariants.{Off, OtherSource, OtherPlace, PublisherAbsent, NoMedia, SubscriberAbsent, Skipped, Lossy, Reported, OnlyListens, Unreported}
 use Rattle.diagnosis.specs.Kinds.{kind_of, kind_words}
-use Rattle.diagnosis.specs.Reasons.{report_in}
+use Rattle.diagnosis.specs.Reasons.{report_in, unit_report_in}
 use Rattle.diagnosis.specs.declared.sightings.StraySource.{StraySource}
 
 -- which leg, between endpoints that are called so
@@ -54,6 +54,7 @@ detail_words (PublisherAbsent ago) = heard_words ago
 detail_words (NoMedia ago) = last_words ago
 detail_words (SubscriberAbsent ago) = heard_words ago
 detail_words (Skipped rate) = decimal rate ++ codes " a second"
+detail_words (Lossy rate report) = rate_words rate
 detail_words (Reported rate report) = rate_words rate
 detail_words (OnlyListens rate ago) = heard_words ago ++ rate_words rate
 detail_words (Unreported rate ago) = last_words ago ++ rate_words rate
@@ -69,10 +70,17 @@ abbrev pub reported_line : LegLine → Option ReceptionReport → ℕ → List �
 reported_line l None moment = []
 reported_line l (Some report) moment = line_of_leg_report l report moment
 
--- the line of a leg, and of what is reported of it
+-- what the unit reported to the publisher
+abbrev pub unit_reported_line : ℕ → Option ReceptionReport → ℕ → List ℕ
+unit_reported_line publisher None moment = []
+unit_reported_line publisher (Some report) moment = line_of_publisher_report publisher report moment
+
+-- the line of a leg, and of what is reported of it, or to its publisher
 abbrev pub lines_of_reason : LegLine → List ℕ → List ℕ → Reason → ℕ → List ℕ
 lines_of_reason l publisher subscriber reason moment =
-    line_of_reason l.leg publisher subscriber reason ++ reported_line l (report_in reason) moment
+    line_of_reason l.leg publisher subscriber reason
+    ++ (reported_line l (report_in reason) moment
+    ++ unit_reported_line l.publisher (unit_report_in reason) moment)
 
 -- whose packets they are
 abbrev pub endpoint_words : ℕ → List ℕ

@@ -5,7 +5,7 @@ use Rattle.stats.specs.declared.reports.ReceptionReport.{ReceptionReport}
 use Rattle.stats.specs.Reports.{age_of, is_shown}
 use Rattle.diagnosis.specs.declared.facts.LegFacts.{LegFacts}
 use Rattle.diagnosis.specs.declared.reasons.Reason.{Reason}
-use Rattle.diagnosis.specs.declared.reasons.Reason.TheVariants.{Off, OtherSource, OtherPlace, PublisherAbsent, NoMedia, SubscriberAbsent, Skipped, Reported, OnlyListens, Unreported}
+use Rattle.diagnosis.specs.declared.reasons.Reason.TheVariants.{Off, OtherSource, OtherPlace, PublisherAbsent, NoMedia, SubscriberAbsent, Skipped, Lossy, Reported, OnlyListens, Unreported}
 use Rattle.diagnosis.specs.declared.reasons.TheConstants.{LATELY_MS}
 use Rattle.diagnosis.specs.declared.sightings.StrayPlace.{StrayPlace}
 use Rattle.diagnosis.specs.declared.sightings.StraySource.{StraySource}
@@ -65,6 +65,15 @@ abbrev pub skipped : LegFacts → Option Reason
 skipped f = if (f.flow.packets == 0) && nat_lt 0 f.flow.skipped
     then Some (Skipped (each_second f.flow.skipped f.flow.ms)) else None
 
+-- a report of the unit that is still shown, by which a share was lost since the one before (RFC 3550, section 6.4.1)
+abbrev pub loss_reason : ℕ → ℕ → ReceptionReport → Option Reason
+loss_reason rate moment r =
+    if is_shown r moment && nat_lt 0 r.fraction then Some (Lossy rate r) else None
+
+-- packets are lost on the way from the publisher to the unit
+abbrev pub lossy : LegFacts → Option Reason
+lossy f = option_and_then (loss_reason (flow_rate f) f.moment) f.unit_report
+
 -- a report that isn't shown any more
 abbrev pub silence_reason : ℕ → ℕ → ReceptionReport → Option Reason
 silence_reason rate moment r =
@@ -99,9 +108,24 @@ report_in (PublisherAbsent ago) = None
 report_in (NoMedia ago) = None
 report_in (SubscriberAbsent ago) = None
 report_in (Skipped rate) = None
+report_in (Lossy rate report) = None
 report_in (Reported rate report) = Some report
 report_in (OnlyListens rate ago) = None
 report_in (Unreported rate ago) = None
+
+-- what the unit reports to the publisher, if that is said
+abbrev pub unit_report_in : Reason → Option ReceptionReport
+unit_report_in Off = None
+unit_report_in (OtherSource source ago) = None
+unit_report_in (OtherPlace address ago) = None
+unit_report_in (PublisherAbsent ago) = None
+unit_report_in (NoMedia ago) = None
+unit_report_in (SubscriberAbsent ago) = None
+unit_report_in (Skipped rate) = None
+unit_report_in (Lossy rate report) = Some report
+unit_report_in (Reported rate report) = None
+unit_report_in (OnlyListens rate ago) = None
+unit_report_in (Unreported rate ago) = None
 
 -- ---- which is said
 
@@ -120,7 +144,7 @@ publisher_trouble f =
 abbrev pub subscriber_state : LegFacts → Option Reason
 subscriber_state f =
     first_there (subscriber_absent f)
-    (skipped f ∷ (fell_silent f ∷ (reported f ∷ (subscriber_listens f ∷ []))))
+    (skipped f ∷ (fell_silent f ∷ (lossy f ∷ (reported f ∷ (subscriber_listens f ∷ [])))))
 
 -- the first that applies, or else that the subscriber never reported
 abbrev pub why : LegFacts → Reason

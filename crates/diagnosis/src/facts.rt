@@ -28,4 +28,6 @@ pub struct LegFacts {
     pub flow: LegFlow,
     /// What its subscriber reported of it last; `None` if it reported nothing.
     pub report: Option<ReceptionReport>,
+    /// What the unit reported to its publisher last; `None` if it reported nothing.
+    pub unit_report: Option<ReceptionReport>,
 }

@@ -2,11 +2,11 @@
 
 ghost use Rattle.std.specs.Prelude.{◌≡◌, ◌++◌, IfOk, OnOk};
 ghost use Rattle.std.specs.String.{string_bytes};
-ghost use Rattle.diagnosis.specs.ReasonLine.{detail_words, endpoint_words, heard_words, last_words, leg_words, line_of_reason, line_of_stray, lines_of_reason, place_words, rate_words, reported_line, source_words};
+ghost use Rattle.diagnosis.specs.ReasonLine.{detail_words, endpoint_words, heard_words, last_words, leg_words, line_of_reason, line_of_stray, lines_of_reason, place_words, rate_words, reported_line, source_words, unit_reported_line};
 
 use crate::reasons::Reason;
 use crate::sightings::StraySource;
-use stats::{LegLine, LegNames, ReceptionReport, leg_report_line};
+use stats::{LegLine, LegNames, ReceptionReport, leg_report_line, publisher_report_line};
 use std::alloc::{AllocError, Global};
 use std::net::SocketAddr;
 use tmmbr_tuple::Ssrc;
@@ -28,8 +28,8 @@ pub fn line_of_reason(
     Ok(text)
 }
 
-/// The same line. If the leg's subscriber reports, it is followed by what that reported last, and how many milliseconds before this moment.
-/// Refused for want of memory alone.
+/// The same line. If the leg's subscriber reports, it is followed by what that reported last, and how many milliseconds before this moment;
+/// if packets are lost on the way from the publisher, by what the unit reported to that. Refused for want of memory alone.
 pub fn reason_lines(
     alloc: Global,
     line: LegLine,
@@ -42,6 +42,13 @@ pub fn reason_lines(
 {
     let mut text = line_of_reason(alloc, line.leg, names, reason)?;
     push_report(alloc, &mut text, line, reason.report(), moment)?;
+    push_unit_report(
+        alloc,
+        &mut text,
+        line.publisher,
+        reason.unit_report(),
+        moment,
+    )?;
     Ok(text)
 }
 
@@ -59,6 +66,26 @@ fn push_report(
     match report {
         Some(report) => {
             let reported = leg_report_line(alloc, line, &report, moment)?;
+            text.push_str(reported.as_str())
+        }
+        None => Ok(()),
+    }
+}
+
+/// What the unit reported to a publisher.
+fn push_unit_report(
+    alloc: Global,
+    text: &mut String,
+    publisher: u16,
+    report: Option<ReceptionReport>,
+    moment: u64,
+) -> Result<(), AllocError>
+    ensures { OnOk result
+        (string_bytes text.new ≡ string_bytes text.old ++ unit_reported_line publisher report moment) }
+{
+    match report {
+        Some(report) => {
+            let reported = publisher_report_line(alloc, publisher, &report, moment)?;
             text.push_str(reported.as_str())
         }
         None => Ok(()),
@@ -91,6 +118,7 @@ fn push_detail(text: &mut String, reason: Reason) -> Result<(), AllocError>
         Reason::NoMedia(ago_ms) => push_last(text, ago_ms),
         Reason::SubscriberAbsent(ago_ms) => push_heard(text, ago_ms),
         Reason::Skipped(rate) => write!(text, "{rate} a second"),
+        Reason::Lossy(rate, _) => push_rate(text, rate),
         Reason::Reported(rate, _) => push_rate(text, rate),
         Reason::OnlyListens(rate, ago_ms) => push_heard_and_rate(text, rate, ago_ms),
         Reason::Unreported(rate, ago_ms) => push_last_and_rate(text, rate, ago_ms),

@@ -1,7 +1,7 @@
 //! Why a subscriber sees nothing, or what it is sent.
 
 ghost use Rattle.std.specs.Prelude.{◌≡◌};
-ghost use Rattle.diagnosis.specs.Reasons.{age_at, fell_silent, flow_rate, is_silent, no_media, off, other_place, other_source, place_reason, publisher_absent, publisher_trouble, report_reason, reported, silence_reason, skipped, source_reason, subscriber_absent, subscriber_listens, subscriber_state, unreported, why};
+ghost use Rattle.diagnosis.specs.Reasons.{age_at, fell_silent, flow_rate, is_silent, loss_reason, lossy, no_media, off, other_place, other_source, place_reason, publisher_absent, publisher_trouble, report_reason, reported, silence_reason, skipped, source_reason, subscriber_absent, subscriber_listens, subscriber_state, unreported, why};
 
 use crate::facts::LegFacts;
 use crate::flow::each_second;
@@ -31,6 +31,8 @@ pub enum Reason {
     SubscriberAbsent(Option<u64>),
     /// So many packets a second come and are skipped.
     Skipped(u64),
+    /// So many packets a second are sent, and some are lost on the way from the publisher, to whom the unit reported this last.
+    Lossy(u64, ReceptionReport),
     /// So many packets a second are sent, and the subscriber reported this last.
     Reported(u64, ReceptionReport),
     /// So many packets a second are sent to a subscriber that only listens, and was heard so long ago.
@@ -42,7 +44,7 @@ pub enum Reason {
 impl Reason {
     ghost use Rattle.std.specs.Prelude.{◌≡◌};
     ghost use Rattle.diagnosis.specs.Kinds.{kind_of};
-    ghost use Rattle.diagnosis.specs.Reasons.{report_in};
+    ghost use Rattle.diagnosis.specs.Reasons.{report_in, unit_report_in};
 
     /// Which of the reasons it is.
     pub fn kind(self) -> ReasonKind
@@ -56,6 +58,7 @@ impl Reason {
             Reason::NoMedia(_) => ReasonKind::NoMedia,
             Reason::SubscriberAbsent(_) => ReasonKind::SubscriberAbsent,
             Reason::Skipped(_) => ReasonKind::Skipped,
+            Reason::Lossy(..) => ReasonKind::Lossy,
             Reason::Reported(..) => ReasonKind::Reported,
             Reason::OnlyListens(..) => ReasonKind::OnlyListens,
             Reason::Unreported(..) => ReasonKind::Unreported,
@@ -75,6 +78,26 @@ impl Reason {
             Reason::NoMedia(_) => None,
             Reason::SubscriberAbsent(_) => None,
             Reason::Skipped(_) => None,
+            Reason::Lossy(..) => None,
+            Reason::OnlyListens(..) => None,
+            Reason::Unreported(..) => None,
+        }
+    }
+
+    /// What the unit reported to the publisher last, if that is the reason.
+    pub fn unit_report(self) -> Option<ReceptionReport>
+        ensures { result ≡ unit_report_in self }
+    {
+        match self {
+            Reason::Lossy(_, report) => Some(report),
+            Reason::Off => None,
+            Reason::OtherSource(..) => None,
+            Reason::OtherPlace(..) => None,
+            Reason::PublisherAbsent(_) => None,
+            Reason::NoMedia(_) => None,
+            Reason::SubscriberAbsent(_) => None,
+            Reason::Skipped(_) => None,
+            Reason::Reported(..) => None,
             Reason::OnlyListens(..) => None,
             Reason::Unreported(..) => None,
         }
@@ -109,6 +132,7 @@ fn subscriber_state(facts: &LegFacts) -> Option<Reason>
     subscriber_absent(facts)
         .or(skipped(facts))
         .or(fell_silent(facts))
+        .or(lossy(facts))
         .or(reported(facts))
         .or(subscriber_listens(facts))
 }
@@ -217,6 +241,24 @@ fn silence_reason(report: ReceptionReport, rate: u64, moment: u64) -> Option<Rea
 {
     if !report.is_shown(moment) {
         Some(Reason::Unreported(rate, Some(report.age_ms(moment))))
+    } else {
+        None
+    }
+}
+
+/// Packets are lost on the way from the publisher, by what the unit reported of late.
+fn lossy(facts: &LegFacts) -> Option<Reason>
+    ensures { result ≡ lossy facts.now }
+{
+    let report = facts.unit_report?;
+    loss_reason(report, flow_rate(facts), facts.moment)
+}
+
+fn loss_reason(report: ReceptionReport, rate: u64, moment: u64) -> Option<Reason>
+    ensures { result ≡ loss_reason rate moment report }
+{
+    if report.is_shown(moment) && report.fraction > 0 {
+        Some(Reason::Lossy(rate, report))
     } else {
         None
     }

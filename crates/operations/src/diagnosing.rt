@@ -106,6 +106,7 @@ impl Diagnosing {
             subscriber: self.facts_of(line.subscriber, endpoints, present, traffic)?,
             flow: self.flow(line.leg, traffic, moment)?,
             report: traffic.leg_report(line.leg),
+            unit_report: traffic.publisher_report(line.publisher),
         };
         Some(why(&facts))
     }
