@@ -1,5 +1,5 @@
 -- The lines of a record: of each event that a unit takes in, and of its head.
-use Rattle.std.specs.Prelude.{◌++◌, ◌==◌, ℕ, Bool, true, false, List, [], ◌∷◌, codes, flat_map, length, if◌then◌else◌}
+use Rattle.std.specs.Prelude.{◌++◌, ◌==◌, ℕ, Bool, true, false, List, [], ◌∷◌, Option, None, Some, codes, flat_map, length, if◌then◌else◌}
 use Rattle.std.specs.Fmt.{decimal}
 use Rattle.hex.specs.Hex.{encode_lower}
 use Rattle.events.specs.declared.event.Event.{Event}
@@ -34,9 +34,10 @@ abbrev pub heard_head : ℕ → ℕ → List ℕ
 heard_head moment endpoint =
     codes "hear " ++ (decimal moment ++ (codes " " ++ (decimal endpoint ++ codes " ")))
 
--- the comment before a report that the unit made in the name of an endpoint that only listens
-abbrev pub made_mark : List ℕ
-made_mark = codes "# made in its name\n"
+-- the comment before a datagram that the unit made in an endpoint's name: at which moment one of its own came last, if one did
+abbrev pub made_mark : Option ℕ → List ℕ
+made_mark None = codes "# made in its name\n"
+made_mark (Some heard) = codes "# made in its name, heard at " ++ (decimal heard ++ codes "\n")
 
 -- the lines of a datagram that a policy made, after a comment with what came
 abbrev pub after_came : List ℕ → List ℕ → List ℕ

@@ -10,7 +10,7 @@ use Rattle.recording.specs.Lines.{after_came, event_lines, made_mark}
 -- the lines of a datagram, after a comment if the unit made it, or a policy made it of what came
 abbrev pub with_origin : Origin → List ℕ → List ℕ
 with_origin Came lines = lines
-with_origin Made lines = made_mark ++ lines
+with_origin (Made heard) lines = made_mark heard ++ lines
 with_origin (Changed came) lines = after_came came.now lines
 
 -- the lines of what a unit took in at this moment

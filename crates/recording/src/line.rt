@@ -38,19 +38,33 @@ pub(crate) fn write_heard_head(
     write!(text, "hear {moment} {endpoint} ")
 }
 
-/// The lines of a report that the unit made in the name of an endpoint that only listens: a comment that says so, then those of a datagram from
-/// it. Refused for want of memory alone.
+/// The lines of a datagram that the unit made in an endpoint's name: a comment that says so, and at which moment in milliseconds one of its own
+/// came last, if one did; then those of a datagram from it. Refused for want of memory alone.
 pub(crate) fn made_lines(
     alloc: Global,
     moment: u64,
     endpoint: u16,
     bytes: &[u8],
+    heard_ms: Option<u64>,
 ) -> Result<String, AllocError>
     ensures { IfOk result (λ text. string_bytes text
-        ≡ made_mark ++ event_lines (Hear moment endpoint bytes.now)) }
+        ≡ made_mark heard_ms ++ event_lines (Hear moment endpoint bytes.now)) }
 {
-    let heard = heard_lines(alloc, moment, endpoint, bytes)?;
-    format!(in alloc; "# made in its name\n{heard}")
+    let lines = heard_lines(alloc, moment, endpoint, bytes)?;
+    let mut text = made_mark(alloc, heard_ms)?;
+    text.push_str(lines.as_str())?;
+    Ok(text)
+}
+
+/// The comment before a datagram that the unit made in the name of an endpoint of which one came last at this moment in milliseconds, if one
+/// did.
+fn made_mark(alloc: Global, heard_ms: Option<u64>) -> Result<String, AllocError>
+    ensures { IfOk result (λ text. string_bytes text ≡ made_mark heard_ms) }
+{
+    match heard_ms {
+        Some(heard_ms) => format!(in alloc; "# made in its name, heard at {heard_ms}\n"),
+        None => String::from_str(alloc, "# made in its name\n"),
+    }
 }
 
 /// The lines of a datagram that a policy made of what an endpoint sent: its own, after a comment with what came. Refused for want of memory

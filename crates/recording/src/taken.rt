@@ -23,8 +23,8 @@ pub enum Taken<'a> {
 pub enum Origin<'a> {
     /// It is what came.
     Came,
-    /// The unit made it, in the endpoint's name.
-    Made,
+    /// The unit made it, in the endpoint's name, of which one came last at this moment, in milliseconds, if one did.
+    Made(Option<u64>),
     /// A policy made it of what came, which was this.
     Changed(&'a [u8]),
 }

@@ -119,8 +119,8 @@ impl Tape {
     {
         match origin {
             Origin::Came => self.put_heard(moment, endpoint, bytes),
-            Origin::Made => {
-                let lines = made_lines(self.alloc, moment, endpoint, bytes);
+            Origin::Made(heard_ms) => {
+                let lines = made_lines(self.alloc, moment, endpoint, bytes, heard_ms);
                 self.put_made(lines)
             }
             Origin::Changed(came) => {

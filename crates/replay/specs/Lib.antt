@@ -1,6 +1,7 @@
 pub mod ByFile
 pub mod Head
 pub mod LastPackets
+pub mod Marks
 pub mod OutText
 pub mod Printing
 pub mod Replay

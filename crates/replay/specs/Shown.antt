@@ -23,18 +23,21 @@ use Rattle.replay.specs.declared.shown.Shown.{Shown}
 use Rattle.replay.specs.declared.shown.Unknown.{Unknown}
 use Rattle.replay.specs.declared.shown.Unknown.TheVariants as unknown
 use Rattle.replay.specs.LastPackets.{no_packet, packets_after}
+use Rattle.replay.specs.Marks.{is_made_mark}
 use Rattle.replay.specs.OutText.{out_line}
 use Rattle.replay.specs.Utc.{clock_text, moment_text}
 
 -- ---- what a script gives
 
 -- The event from which something follows: the number of its line, from 1, or 0 before the first event; its moment, what came, and the
--- line.
+-- line; and, of it and of the one that comes next, the comment before it that says that the unit made it, or nothing.
 pub record Cause : Type 0 where
   pub number : ℕ
   pub moment : ℕ
   pub incoming : Incoming
   pub line : List ℕ
+  pub mark : List ℕ
+  pub next_mark : List ℕ
 
 abbrev pub cause_of : Latest → Cause
 cause_of latest = record {
@@ -42,10 +45,19 @@ cause_of latest = record {
   moment = latest.input.moment;
   incoming = latest.input.incoming;
   line = latest.line.now;
+  mark = latest.mark.now;
+  next_mark = latest.next_mark.now;
 }
 
 abbrev pub no_cause : Cause
-no_cause = record { number = 0; moment = 0; incoming = Moment; line = [] }
+no_cause = record {
+  number = 0;
+  moment = 0;
+  incoming = Moment;
+  line = [];
+  mark = [];
+  next_mark = [];
+}
 
 abbrev pub event_input : Event → Option DatedInput
 event_input (Hear moment endpoint bytes) =
@@ -68,12 +80,15 @@ script_line_input (ACommand command) = command_input command
 script_line_input Unreadable = None
 
 abbrev pub cause_at : ℕ → List ℕ → Option DatedInput → Cause → Cause
-cause_at number line None before = before
+cause_at number line None before =
+    if is_made_mark line then record before { next_mark = line } else before
 cause_at number line (Some input) before = record {
   number = number;
   moment = input.moment;
   incoming = input.incoming;
   line = line;
+  mark = before.next_mark;
+  next_mark = [];
 }
 
 -- the latest event once the line of this number is read
@@ -317,9 +332,18 @@ last_told v last cause the_end = last
 
 -- ---- its text
 
+-- the comment before an event, if there is one
+abbrev pub mark_line : List ℕ → List ℕ
+mark_line [] = []
+mark_line (b ∷ mark) = (b ∷ mark) ++ codes "\n"
+
 -- the line of an event, after its moment if the wall clock is shown
+abbrev pub dated_line : Scene → Cause → List ℕ
+dated_line v cause = clock_text v.clock cause.moment ++ (cause.line ++ codes "\n")
+
+-- the same, after that comment
 abbrev pub event_line : Scene → Cause → List ℕ
-event_line v cause = clock_text v.clock cause.moment ++ (cause.line ++ codes "\n")
+event_line v cause = mark_line cause.mark ++ dated_line v cause
 
 -- the same, if it isn't the one that stands there already
 abbrev pub new_line : Scene → ℕ → Cause → List ℕ

@@ -1,9 +1,10 @@
 //! The latest event of a script.
 
-ghost use Rattle.std.specs.Prelude.{◌≡◌};
-ghost use Rattle.replay.specs.Shown.{cause_after, cause_of, command_input, event_input, no_cause, packet_at, script_line_input};
+ghost use Rattle.std.specs.Prelude.{◌≡◌, None};
+ghost use Rattle.replay.specs.Shown.{cause_after, cause_at, cause_of, command_input, event_input, no_cause, packet_at, script_line_input};
 
 use crate::last_packets::LastPacket;
+use crate::marks::is_made_mark;
 use crate::script::{Command, ScriptLine};
 use events::Event;
 
@@ -31,6 +32,10 @@ pub struct Latest<'t> {
     pub(crate) number: u64,
     pub(crate) input: DatedInput,
     pub(crate) line: &'t [u8],
+    /// The comment before it that says that the unit made it, or nothing.
+    pub(crate) mark: &'t [u8],
+    /// The same before what comes next.
+    pub(crate) next_mark: &'t [u8],
 }
 
 impl<'t> Latest<'t> {
@@ -45,6 +50,8 @@ impl<'t> Latest<'t> {
                 incoming: Incoming::Moment,
             },
             line: &[],
+            mark: &[],
+            next_mark: &[],
         }
     }
 
@@ -57,8 +64,24 @@ impl<'t> Latest<'t> {
                 number,
                 input,
                 line,
+                mark: self.next_mark,
+                next_mark: &[],
             },
-            None => self,
+            None => self.behind(line),
+        }
+    }
+
+    /// The same behind a line by which nothing came.
+    fn behind(self, line: &'t [u8]) -> Latest<'t>
+        ensures { cause_of result ≡ cause_at 0 line.now None (cause_of self.entry) }
+    {
+        if is_made_mark(line) {
+            Latest {
+                next_mark: line,
+                ..self
+            }
+        } else {
+            self
         }
     }
 

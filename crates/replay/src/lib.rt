@@ -4,7 +4,7 @@
 //! Read `replay` first, how a script is played, then `script`, what a line asks for. `by_file` takes the settings from a file. `out_text`
 //! is the line for each thing that comes out, `latest` the event from which it follows, `shown` whether it is to be shown, and `printing`
 //! prints what is, of all that a line gives (`giving`). `gaps` has where no packet goes out on a leg for a while, by its `last_packets`.
-//! `head` is what a record says of itself, and `utc` a moment as the wall clock shows it.
+//! `head` is what a record says of itself, `marks` which of its comments are shown, and `utc` a moment as the wall clock shows it.
 #![tactic(auto)]
 
 mod by_file;
@@ -13,6 +13,7 @@ mod giving;
 mod head;
 mod last_packets;
 mod latest;
+mod marks;
 mod out_text;
 mod printing;
 mod replay;

@@ -4,7 +4,7 @@ ghost use Rattle.std.specs.Prelude.{◌≡◌, ◌++◌, ◌∷◌, ℕ, [], Lis
 ghost use Rattle.std.specs.Io.KnownBytes.{Appends};
 ghost use Rattle.replay.specs.OutText.{out_line};
 ghost use Rattle.replay.specs.Printing.{PrintsGiven, scene_of};
-ghost use Rattle.replay.specs.Shown.{a_set, an_event, an_out, cause_of, event_line, event_told, given_at, heading, is_shown, new_line, said_after, shown_line, the_end, trail};
+ghost use Rattle.replay.specs.Shown.{a_set, an_event, an_out, cause_of, dated_line, event_line, event_told, given_at, heading, is_shown, mark_line, new_line, said_after, shown_line, the_end, trail};
 ghost use Rattle.replay.specs.declared.last_packets.LastPacket.{LastPacket};
 
 use crate::gaps::{leg_sent, print_gap_before, print_open_gaps};
@@ -247,6 +247,7 @@ fn print_new_line<O: Write>(
     print_event_line(alloc, choice, latest, writer)
 }
 
+/// The line of the latest event, after the comment before it.
 fn print_event_line<O: Write>(
     alloc: Global,
     choice: Choice<'_>,
@@ -256,9 +257,36 @@ fn print_event_line<O: Write>(
     ensures printed { OnOk result (Appends (O.contents writer.old) (O.contents writer.new)
         (event_line (scene_of choice.entry) (cause_of latest.entry))) }
 {
+    print_mark(latest.mark, writer)?;
+    print_dated_line(alloc, choice, latest, writer)?;
+    Ok(())
+}
+
+/// The line of the latest event alone.
+fn print_dated_line<O: Write>(
+    alloc: Global,
+    choice: Choice<'_>,
+    latest: Latest<'_>,
+    writer: &mut O,
+) -> io::Result<()>
+    ensures printed { OnOk result (Appends (O.contents writer.old) (O.contents writer.new)
+        (dated_line (scene_of choice.entry) (cause_of latest.entry))) }
+{
     let clock = clock_text(alloc, choice.clock, latest.input.moment)?;
     writer.write_all(clock.as_bytes())?;
     writer.write_all(latest.line)?;
     writer.write_all(b"\n")?;
     Ok(())
+}
+
+/// The comment before an event, if there is one.
+fn print_mark<O: Write>(mark: &[u8], writer: &mut O) -> io::Result<()>
+    ensures printed { OnOk result (Appends (O.contents writer.old) (O.contents writer.new)
+        (mark_line mark.now)) }
+{
+    if mark.is_empty() {
+        return Ok(());
+    }
+    writer.write_all(mark)?;
+    writer.write_all(b"\n")
 }

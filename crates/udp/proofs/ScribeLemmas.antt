@@ -156,10 +156,10 @@ not_so : {P : Type 0} (b : Bool) → (IsTrue b ↔ P) → (P → ⊥) → b ≡ 
 not_so true iff other = absurd (other (iff.0 refl))
 not_so false iff other = refl
 
-pub takes_down : (moment : ℕ) (k : Kept) (old new : TapeState) (b : Bool) → k.is_made ≡ false → (IsTrue b ↔ IsWhatCame k)
+pub takes_down : (moment : ℕ) (k : Kept) (before : Option ℕ) (old new : TapeState) (b : Bool) → k.is_made ≡ false → (IsTrue b ↔ IsWhatCame k)
     → (b ≡ true → PutsOrEnds old (event_lines (Hear moment k.sent.endpoint (bytes_of k))) new)
-    → (b ≡ false → PutsOrEnds old (after_came (bytes_of k) (spelled_lines moment k)) new) → TakesDown moment k old new
-takes_down moment k old new b heard iff came changed = record {
+    → (b ≡ false → PutsOrEnds old (after_came (bytes_of k) (spelled_lines moment k)) new) → TakesDown moment k before old new
+takes_down moment k before old new b heard iff came changed = record {
   made = λ made. absurd (false≢true (sym heard ∙ made));
   came = λ _ same. came (iff.1 same);
   changed = λ _ other. changed (not_so b iff other);

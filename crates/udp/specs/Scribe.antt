@@ -1,5 +1,5 @@
 -- What a record has of what is let in, so that a replay takes in the same.
-use Rattle.std.specs.Prelude.{◌≡◌, ◌⊎◌, ◌++◌, ℕ, true, false, List, [], Result, Ok, Err}
+use Rattle.std.specs.Prelude.{◌≡◌, ◌⊎◌, ◌++◌, ℕ, true, false, List, [], Option, Result, Ok, Err}
 use Rattle.datagram.specs.Reads.{IsSaidIn, was_read}
 use Rattle.datagram.specs.Spelling.{IsAsHeard}
 use Rattle.datagram.specs.declared.reading.What.{What}
@@ -39,19 +39,19 @@ abbrev pub PutsOrEnds : TapeState → List ℕ → TapeState → Type 0
 PutsOrEnds old lines new = IsWritten old lines new ⊎ (new ≡ ended Memory old)
 
 -- What is kept is put at this moment as a datagram that says it: what came, if that does. Else it is spelled, behind a mark if the unit made it in
--- the endpoint's name, and behind what came if a rule changed that.
-pub record TakesDown (moment : ℕ) (k : Kept) (old new : TapeState) : Type 0 where
-  pub made : k.is_made ≡ true → PutsOrEnds old (made_mark ++ spelled_lines moment k) new
+-- the endpoint's name, of whom one came last at the moment `heard`, and behind what came if a rule changed that.
+pub record TakesDown (moment : ℕ) (k : Kept) (heard : Option ℕ) (old new : TapeState) : Type 0 where
+  pub made : k.is_made ≡ true → PutsOrEnds old (made_mark heard ++ spelled_lines moment k) new
   pub came : k.is_made ≡ false → IsWhatCame k
       → PutsOrEnds old (event_lines (Hear moment k.sent.endpoint (bytes_of k))) new
   pub changed : k.is_made ≡ false → (IsWhatCame k → ⊥)
       → PutsOrEnds old (after_came (bytes_of k) (spelled_lines moment k)) new
 
 -- what is put if this was let in
-abbrev pub NotesDown : ℕ → Result Admitted ReceiveFault → Kept → TapeState → TapeState → Type 0
-NotesDown moment (Ok admitted.Nothing) k old new = IsWritten old [] new
-NotesDown moment (Ok admitted.Taking) k old new = TakesDown moment k old new
-NotesDown moment (Ok (admitted.Select leg on)) k old new =
+abbrev pub NotesDown : ℕ → Result Admitted ReceiveFault → Kept → Option ℕ → TapeState → TapeState → Type 0
+NotesDown moment (Ok admitted.Nothing) k heard old new = IsWritten old [] new
+NotesDown moment (Ok admitted.Taking) k heard old new = TakesDown moment k heard old new
+NotesDown moment (Ok (admitted.Select leg on)) k heard old new =
     IsWritten old (event_lines (Select moment leg on)) new
-NotesDown moment (Ok admitted.Stop) k old new = IsWritten old [] new
-NotesDown moment (Err fault) k old new = IsWritten old [] new
+NotesDown moment (Ok admitted.Stop) k heard old new = IsWritten old [] new
+NotesDown moment (Err fault) k heard old new = IsWritten old [] new

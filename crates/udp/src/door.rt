@@ -343,7 +343,8 @@ impl<R: time::Clock> Entrance for Door<'_, R> {
         if matches!(came.admitted, Ok(Admitted::Taking)) {
             self.hearing.kept.is_said();
         }
-        self.scribe.note(self.run_status, came, &self.hearing.kept);
+        self.scribe
+            .note(self.run_status, self.traffic, came, &self.hearing.kept);
         Ok(came)
     }
 

@@ -13,6 +13,7 @@ use datagram::{Ask, Control, Reading, What, read, spell};
 use entrance::{Admitted, Came};
 use operations::RunStatus;
 use recording::{Origin, Recorder, Taken};
+use stats::Traffic;
 use std::alloc::{AllocError, Global};
 use std::marker::Model;
 use tmmbr_tuple::Ssrc;
@@ -54,12 +55,19 @@ impl Scribe {
     }
 
     /// This is let in; what is taken in is kept there.
-    pub(crate) fn note(&mut self, run_status: &RunStatus, came: Came, kept: &Kept) {
+    pub(crate) fn note(
+        &mut self,
+        run_status: &RunStatus,
+        traffic: &Traffic,
+        came: Came,
+        kept: &Kept,
+    ) {
+        let heard_ms = heard_before(traffic, kept);
         if let Some(mut recorder) = run_status.file_recorder() {
-            self.note_in(&mut recorder, came, kept);
+            self.note_in(&mut recorder, came, kept, heard_ms);
         }
         if let Some(mut recorder) = run_status.recorder() {
-            self.note_in(&mut recorder, came, kept);
+            self.note_in(&mut recorder, came, kept, heard_ms);
         }
     }
 
@@ -73,18 +81,19 @@ impl Scribe {
         }
     }
 
-    /// Has this recorder write down what was let in.
-    fn note_in(&mut self, recorder: &mut Recorder, came: Came, kept: &Kept)
+    /// Has this recorder write down what was let in. If the unit made it, one of the endpoint's own came last at `heard_ms`, if one did.
+    fn note_in(&mut self, recorder: &mut Recorder, came: Came, kept: &Kept, heard_ms: Option<u64>)
         ensures off { recorder.old.is_open ≡ false → recorder.new.tape ≡ recorder.old.tape }
         ensures on { recorder.old.is_open ≡ true → IsKeptAsHeard kept.now
-            → NotesDown came.moment came.admitted kept.now recorder.old.tape recorder.new.tape }
+            → NotesDown came.moment came.admitted kept.now heard_ms recorder.old.tape
+            recorder.new.tape }
     {
         if !recorder.is_on() {
             return;
         }
         let Came { moment, admitted } = came;
         match admitted {
-            Ok(Admitted::Taking) => self.note_taken(recorder, moment, kept),
+            Ok(Admitted::Taking) => self.note_taken(recorder, moment, kept, heard_ms),
             Ok(Admitted::Select { leg, on }) => recorder.note(moment, Taken::Select { leg, on }),
             Ok(Admitted::Nothing) => recorder.note(moment, Taken::Nothing),
             Ok(Admitted::Stop) => recorder.note(moment, Taken::Nothing),
@@ -93,12 +102,18 @@ impl Scribe {
     }
 
     /// What is kept is taken in at this moment.
-    fn note_taken(&mut self, recorder: &mut Recorder, moment: u64, kept: &Kept)
+    fn note_taken(
+        &mut self,
+        recorder: &mut Recorder,
+        moment: u64,
+        kept: &Kept,
+        heard_ms: Option<u64>,
+    )
         ensures { recorder.old.is_open ≡ true → IsKeptAsHeard kept.now
-            → TakesDown moment kept.now recorder.old.tape recorder.new.tape }
+            → TakesDown moment kept.now heard_ms recorder.old.tape recorder.new.tape }
     {
         if kept.is_made {
-            self.note_spelled(recorder, moment, kept, Origin::Made);
+            self.note_spelled(recorder, moment, kept, Origin::Made(heard_ms));
             return;
         }
         match self.is_what_came(kept) {
@@ -187,6 +202,15 @@ impl Scribe {
     {
         read(bytes, own, None, &mut self.heard)?;
         Ok(are_same(&self.heard, kept))
+    }
+}
+
+/// When one of the endpoint's own came last, in milliseconds, if the unit made what is kept.
+fn heard_before(traffic: &Traffic, kept: &Kept) -> Option<u64> {
+    if kept.is_made {
+        traffic.endpoint(kept.sent.endpoint)?.heard_ms
+    } else {
+        None
     }
 }
 
