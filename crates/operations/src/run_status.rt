@@ -7,7 +7,7 @@ use crate::number_keeper::NumberKeeper;
 use crate::steering::{PeerRequest, Steering};
 use control_protocol::{RecordKind, Records, Screened, Unheard};
 use ports::{Look, Received, Status};
-use recording::{End, Recorder};
+use recording::{End, Recorder, UnknownSender};
 use stats::Traffic;
 use std::alloc::Global;
 use std::cell::{Cell, RefCell, RefMut};
@@ -378,11 +378,26 @@ impl RunStatus {
         }
     }
 
-    /// A datagram, or a packet of one, came from nobody, at this address: an RTP packet under this SSRC, if one is given.
-    pub fn count_stranger(&self, from: SocketAddr, source: Option<Ssrc>) {
+    /// A datagram, or a packet of one, came from nobody, at this address: an RTP packet under the first SSRC, if one is given; the other is what it
+    /// names, RTCP too.
+    pub fn count_stranger(&self, from: SocketAddr, media: Option<Ssrc>, named: Option<u32>) {
         self.strangers.set(self.strangers.get().saturating_add(1));
+        let moment = self.moment_ms.get();
         if let Some(mut steering) = self.steering() {
-            steering.note_stranger(from, source, self.moment_ms.get());
+            steering.note_stranger(from, media, moment);
+        }
+        if let Some(source) = named {
+            let address = from;
+            self.record_stranger(UnknownSender { address, source }, moment);
+        }
+    }
+
+    /// Those who record the run may have a line of this one, who comes at this moment.
+    fn record_stranger(&self, sender: UnknownSender, moment: u64) {
+        for kind in [RecordKind::File, RecordKind::Peer] {
+            if let Some(mut recorder) = self.recorder_of(kind) {
+                recorder.note_stranger(moment, sender);
+            }
         }
     }
 

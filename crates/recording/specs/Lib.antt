@@ -4,3 +4,4 @@ pub mod Lines
 pub mod Taken
 pub mod Tapes
 pub mod HandedOn
+pub mod NotedStrangers

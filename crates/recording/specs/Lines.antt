@@ -1,9 +1,11 @@
 -- The lines of a record: of each event that a unit takes in, and of its head.
 use Rattle.std.specs.Prelude.{◌++◌, ◌==◌, ℕ, Bool, true, false, List, [], ◌∷◌, Option, None, Some, codes, flat_map, length, if◌then◌else◌}
 use Rattle.std.specs.Fmt.{decimal}
+use Rattle.std.specs.Net.Text.{socket_text}
 use Rattle.hex.specs.Hex.{encode_lower}
 use Rattle.events.specs.declared.event.Event.{Event}
 use Rattle.events.specs.declared.event.Event.TheVariants.{Hear, Tick, Select, Ingress, Work}
+use Rattle.recording.specs.declared.strangers.UnknownSender.{UnknownSender}
 
 abbrev pub switch_word : Bool → List ℕ
 switch_word true = codes "on"
@@ -42,6 +44,14 @@ made_mark (Some heard) = codes "# made in its name, heard at " ++ (decimal heard
 -- the lines of a datagram that a policy made, after a comment with what came
 abbrev pub after_came : List ℕ → List ℕ → List ℕ
 after_came came lines = codes "# came " ++ (encode_lower came ++ (codes "\n" ++ lines))
+
+-- the comment for an unknown sender, who comes at this moment: from where, and with which SSRC
+abbrev pub stranger_line : ℕ → UnknownSender → List ℕ
+stranger_line moment sender =
+    codes "# stranger "
+    ++ (socket_text sender.address
+    ++ (codes " ssrc "
+    ++ (decimal sender.source ++ (codes " at " ++ (decimal moment ++ codes "\n")))))
 
 -- the comment after the head of a record that begins in the middle of a run
 abbrev pub begun_line : ℕ → List ℕ

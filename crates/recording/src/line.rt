@@ -3,8 +3,9 @@
 ghost use Rattle.std.specs.Prelude.{◌≡◌, ◌++◌, IfOk, OnOk};
 ghost use Rattle.std.specs.String.{string_bytes};
 ghost use Rattle.events.specs.declared.event.Event.TheVariants.{Hear, Tick, Select};
-ghost use Rattle.recording.specs.Lines.{after_came, begun_line, event_lines, heard_head, made_mark, switch_word};
+ghost use Rattle.recording.specs.Lines.{after_came, begun_line, event_lines, heard_head, made_mark, stranger_line, switch_word};
 
+use crate::strangers::UnknownSender;
 use std::alloc::{AllocError, Global};
 use std::fmt::Write;
 
@@ -82,6 +83,18 @@ pub(crate) fn changed_lines(
     let heard = heard_lines(alloc, moment, endpoint, bytes)?;
     let hex = hex::encode(alloc, came)?;
     format!(in alloc; "# came {hex}\n{heard}")
+}
+
+/// The comment for an unknown sender, who comes at this moment in milliseconds. Refused for want of memory alone.
+pub(crate) fn stranger_line(
+    alloc: Global,
+    moment: u64,
+    sender: UnknownSender,
+) -> Result<String, AllocError>
+    ensures { IfOk result (λ text. string_bytes text ≡ stranger_line moment sender) }
+{
+    let UnknownSender { address, source } = sender;
+    format!(in alloc; "# stranger {address} ssrc {source} at {moment}\n")
 }
 
 /// The comment after the head of a record that begins at this moment in milliseconds, in the middle of a run. Refused for want of memory

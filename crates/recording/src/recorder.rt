@@ -7,9 +7,11 @@ ghost use Rattle.recording.specs.Lines.{event_lines};
 ghost use Rattle.recording.specs.Taken.{taken_lines};
 ghost use Rattle.recording.specs.Tapes.{IsMadeAndPut, IsPut, ended, new_tape};
 ghost use Rattle.recording.specs.HandedOn.{IsHandedOn, IsWritten};
+ghost use Rattle.recording.specs.NotedStrangers.{IsStrangerNoted, is_stranger_due, none_noted};
 
 use crate::line::begun_line;
 use crate::record_target::{RecordTarget, Written};
+use crate::strangers::{NotedStrangers, UnknownSender};
 use crate::taken::Taken;
 use crate::tape::{End, Tape};
 use crate::writer_thread::Outlet;
@@ -49,6 +51,8 @@ pub struct Recorder {
     /// Where its records go, as people are told.
     place: String,
     tape: Tape,
+    /// Of which unknown senders it has a line.
+    strangers: NotedStrangers,
     /// How much of it stands where it is written.
     written: Written,
     /// Whether somebody wanted a record so far.
@@ -86,6 +90,7 @@ impl Recorder {
             head,
             place,
             tape: nothing,
+            strangers: NotedStrangers::new(alloc),
             written,
             has_begun: false,
             is_open: false,
@@ -101,9 +106,11 @@ impl Recorder {
         ensures tape { IsPut (new_tape limit) (string_bytes self.old.head) self.new.tape }
         ensures begun { (self.new.has_begun ≡ true) × (self.new.is_open ≡ true) }
         ensures untold { self.new.is_told ≡ false }
+        ensures strangers { self.new.strangers ≡ none_noted }
         ensures place { self.new.place ≡ self.old.place }
     {
         self.tape = Tape::new(self.alloc, limit);
+        self.strangers = NotedStrangers::new(self.alloc);
         self.tape.put(self.head.as_str());
         self.has_begun = true;
         self.is_open = true;
@@ -192,6 +199,34 @@ impl Recorder {
     {
         if self.is_open {
             self.tape.put_ticked(moment);
+        }
+    }
+
+    /// A datagram came from an unknown sender at this moment, in milliseconds since the run began. The record has a line of it the first time,
+    /// and of no two within a second; for want of memory it has none.
+    pub fn note_stranger(&mut self, moment: u64, sender: UnknownSender)
+        ensures off { self.old.is_open ≡ false → (self.new.strangers ≡ self.old.strangers)
+            × (self.new.tape ≡ self.old.tape) }
+        ensures known { is_stranger_due ⟦<UnknownSender as PartialEq>⟧.eq self.old.strangers sender
+            moment ≡ false → (self.new.strangers ≡ self.old.strangers)
+            × (self.new.tape ≡ self.old.tape) }
+        ensures noted { self.old.is_open ≡ true
+            → is_stranger_due ⟦<UnknownSender as PartialEq>⟧.eq self.old.strangers sender moment ≡ true
+            → IsStrangerNoted self.old.strangers sender moment self.new.strangers self.old.tape
+            self.new.tape }
+    {
+        if self.is_open && self.strangers.is_due(sender, moment) {
+            self.put_stranger(moment, sender);
+        }
+    }
+
+    /// The record has a line of this unknown sender.
+    fn put_stranger(&mut self, moment: u64, sender: UnknownSender)
+        ensures { IsStrangerNoted self.old.strangers sender moment self.new.strangers self.old.tape
+            self.new.tape }
+    {
+        if self.strangers.note(sender, moment).is_ok() {
+            self.tape.put_stranger(moment, sender);
         }
     }
 

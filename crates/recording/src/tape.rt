@@ -4,13 +4,16 @@ ghost use Rattle.std.specs.Prelude.{◌≡◌, ◌<◌, ◌≤◌, ◌+◌, ◌+
 ghost use Rattle.std.specs.String.{string_bytes};
 ghost use Rattle.events.specs.declared.event.Event.TheVariants.{Hear, Tick};
 ghost use Rattle.hex.specs.Hex.{encode_lower};
-ghost use Rattle.recording.specs.Lines.{event_lines, follow_line};
+ghost use Rattle.recording.specs.Lines.{event_lines, follow_line, stranger_line};
 ghost use Rattle.recording.specs.Taken.{taken_lines, with_origin};
 ghost use Rattle.recording.specs.declared.tape.End.TheVariants.{Memory};
 ghost use Rattle.recording.specs.Tapes.{IsMadeAndPut, IsPut, end_name, ended, ended_line, new_tape, taken};
 
 use crate::digits::append_digits;
-use crate::line::{changed_lines, made_lines, selected_lines, ticked_lines, write_heard_head};
+use crate::line::{
+    changed_lines, made_lines, selected_lines, stranger_line, ticked_lines, write_heard_head,
+};
+use crate::strangers::UnknownSender;
 use crate::taken::{Origin, Taken};
 use std::alloc::{AllocError, Global};
 use std::marker::Model;
@@ -110,6 +113,14 @@ impl Tape {
     {
         let lines = ticked_lines(self.alloc, moment);
         self.put_made(lines)
+    }
+
+    /// Puts the line of an unknown sender, who comes at this moment in milliseconds, in the same way.
+    pub fn put_stranger(&mut self, moment: u64, sender: UnknownSender)
+        ensures { IsMadeAndPut self.old (stranger_line moment sender) self.new }
+    {
+        let line = stranger_line(self.alloc, moment, sender);
+        self.put_made(line)
     }
 
     /// Puts the lines of a datagram. Most are what came: those are made where they wait.

@@ -17,13 +17,14 @@ use Rattle.core_steps.proofs.SettleLemmas.{step_of}
 use Rattle.core_steps.proofs.AsideLemmas.{ingress_same, work_aside}
 use Rattle.cli.specs.declared.status.Failure.{Failure}
 use Rattle.cli.specs.declared.status.Failure.TheVariants.{NoMemory, Refused as RefusedLine, Io}
-use Rattle.replay.specs.declared.script.ScriptLine.TheVariants.{Unreadable}
+use Rattle.replay.specs.declared.script.ScriptLine.{ScriptLine}
+use Rattle.replay.specs.declared.script.ScriptLine.TheVariants.{Skipped, Unreadable}
 use Rattle.request_text.specs.Lines.{lines_of}
-use Rattle.replay.specs.Replay.{Drains, FailsLine, FailsLines, FailsReplay, Follows, GivesOut, IngressDrains, IsOutside, LinePlays, LinesPlay, PrintsLine, PrintsLines, PrintsReplay, Rounds, Settles, WorkerDrains, WorkersDrain, again, cause_behind, numbers_of, over, quiet, round, scene}
+use Rattle.replay.specs.Replay.{Drains, FailsLine, FailsLines, FailsReplay, Follows, GivesOut, IngressDrains, IsOutside, LinePlays, LinesPlay, PrintsLine, PrintsLines, PrintsReplay, Rounds, ScriptLinePlays, Settles, WorkerDrains, WorkersDrain, again, cause_behind, numbers_of, over, quiet, round, scene}
 use Rattle.settings.specs.Links.{LinkTable, table_of}
 use Rattle.replay.specs.Head.{clock_in}
 use Rattle.replay.specs.declared.script.Command.{Command}
-use Rattle.replay.specs.Shown.{Cause, Given, Scene, Told, all_told, an_out, cause_of, command_input, event_told, first_trail, given_at, no_cause, shown_text, the_end, trail}
+use Rattle.replay.specs.Shown.{Cause, Given, Scene, Told, all_told, an_out, cause_after, cause_of, command_input, comment_told, event_told, first_trail, given_at, no_cause, shown_text, the_end, trail}
 use Rattle.replay.specs.declared.last_packets.LastPacket.{LastPacket}
 use Rattle.replay.specs.declared.replay.Progress.{Progress}
 use Rattle.replay.specs.declared.shown.Shown.{Shown}
@@ -70,6 +71,19 @@ pub stops_at : (c : Configuration) (i : ℕ) (cause : Cause) (lines : List (Bor 
 stops_at c i cause lines d w below unreadable =
     subst (λ (ls : List (List ℕ)). LinesPlay c (i + 1) cause ls w [] (Some (i + 1))) (sym (at_line i lines d below))
     (inr (unreadable, refl, refl))
+
+-- a line that is no command
+pub passes : (c : Configuration) (v : Scene) (n : ℕ) (line : List ℕ) (w : WorldState) (here there : Progress) (last : List LastPacket)
+    (old new : Option (List ℕ)) (r : ScriptLine) → r ≡ Skipped → r ≡ script_line_of (numbers_of c) line
+    → cause_of there.latest ≡ cause_after n line r (cause_of here.latest)
+    → PrintsGiven v (trail here.said last) (given_at (cause_of there.latest) (comment_told line)) (trail there.said last) old new
+    → PrintsLine c v n line w w here there last last old new
+passes c v n line w here there last old new r skipped read latest printed = record {
+  told = comment_told line;
+  plays = subst (λ (x : ScriptLine). ScriptLinePlays c line w x w (comment_told line)) (sym skipped ∙ read) (refl, refl);
+  latest = latest ∙ ap (λ (x : ScriptLine). cause_after n line x (cause_of here.latest)) read;
+  printed = printed;
+}
 
 -- What was played so far: from a new world, and what is shown of what it gave was printed; whatever the lines from here on give comes
 -- after it.

@@ -6,8 +6,9 @@ use Rattle.std.proofs.lemmas.Bool.{cond-false, cond-true, le-leb, lt-leb}
 use Rattle.std.proofs.lemmas.List.{append-nil, map-append, take_more}
 use Rattle.events.specs.declared.output.Out.{Out}
 use Rattle.replay.specs.LastPackets.{no_packet, packets_after}
+use Rattle.replay.specs.Marks.{is_stranger_line}
 use Rattle.replay.specs.Printing.{PrintsGiven}
-use Rattle.replay.specs.Shown.{Cause, Given, Scene, Told, Trail, a_set, an_event, an_out, event_told, gap_before, given_at, heading, is_named, is_shown, leg_sent, lines_at, lines_behind, names_source, new_line, open_gap, open_gaps, packet_at, said_after, shown_line, the_end, told_text, trail, trail_after, trail_behind}
+use Rattle.replay.specs.Shown.{Cause, Given, Scene, Told, Trail, a_comment, a_set, an_event, an_out, comment_line, comment_told, event_told, gap_before, given_at, heading, is_named, is_shown, leg_sent, lines_at, lines_behind, names_source, new_line, open_gap, open_gaps, packet_at, said_after, shown_line, the_end, told_text, trail, trail_after, trail_behind}
 use Rattle.rtcp_compound.specs.Mux.{is_rtcp}
 use Rattle.datagram.specs.Naming.{heard_size, source_named}
 use Rattle.replay.specs.declared.last_packets.LastPacket.{LastPacket}
@@ -137,6 +138,29 @@ end_printed v said last cause old new p =
     let number : said_after v said g ≡ said = cond-false (is_shown v g) cause.number said hidden in
     one_told v said said last last g (open_gaps v last cause (length v.table.legs)) old new new p (subst (Appends new new) (sym none) (Appends-nil new)) refl
     (ap (λ (n : ℕ). trail n last) (sym number))
+
+-- a comment, which is shown or not
+pub comment_printed : (v : Scene) (said : ℕ) (last : List LastPacket) (cause : Cause) (line : List ℕ) (old new : Option (List ℕ))
+    → is_stranger_line line ≡ true → Appends old new (comment_line v cause line)
+    → PrintsGiven v (trail said last) (given_at cause (comment_told line)) (trail said last) old new
+comment_printed v said last cause line old new is p =
+    let g : Given = record { cause = cause; told = a_comment line } in
+    let hidden : is_shown v g ≡ false = never (nat_le v.shown.from_ms cause.moment) in
+    let none : shown_line v said g ≡ [] = cond-false (is_shown v g) (told_text v said cause (a_comment line)) [] hidden in
+    let number : said_after v said g ≡ said = cond-false (is_shown v g) cause.number said hidden in
+    let told : comment_told line ≡ a_comment line ∷ [] = cond-true (is_stranger_line line) (a_comment line ∷ []) [] is in
+    subst (λ (ts : List Told). PrintsGiven v (trail said last) (given_at cause ts) (trail said last) old new) (sym told)
+    (one_told v said said last last g (comment_line v cause line) old new new p (subst (Appends new new) (sym none) (Appends-nil new)) refl
+    (ap (λ (n : ℕ). trail n last) (sym number)))
+
+-- a line that is none
+pub comment_passed : (v : Scene) (said : ℕ) (last : List LastPacket) (cause : Cause) (line : List ℕ) (old : Option (List ℕ))
+    → is_stranger_line line ≡ false
+    → PrintsGiven v (trail said last) (given_at cause (comment_told line)) (trail said last) old old
+comment_passed v said last cause line old other =
+    let told : comment_told line ≡ [] = cond-false (is_stranger_line line) (a_comment line ∷ []) [] other in
+    subst (λ (ts : List Told). PrintsGiven v (trail said last) (given_at cause ts) (trail said last) old old) (sym told)
+    (none_printed v (trail said last) old)
 
 -- the gap of one leg more
 pub more_gaps : (v : Scene) (last : List LastPacket) (cause : Cause) (leg : ℕ) (packet : LastPacket) (old mid new : Option (List ℕ))

@@ -10,3 +10,7 @@ begins_with head line =
 -- it says that the unit made the event that comes next, in its endpoint's name
 unfoldable pub is_made_mark : List ℕ → Bool
 is_made_mark line = begins_with (codes "# made in its name") line
+
+-- it says that an unknown sender came
+unfoldable pub is_stranger_line : List ℕ → Bool
+is_stranger_line line = begins_with (codes "# stranger ") line

@@ -33,7 +33,7 @@ use Rattle.request_text.specs.Lines.{lines_of}
 use Rattle.replay.specs.Script.{script_line_of}
 use Rattle.replay.specs.Head.{clock_in}
 use Rattle.replay.specs.Printing.{PrintsGiven}
-use Rattle.replay.specs.Shown.{Cause, Given, Scene, Told, a_set, all_told, an_out, cause_after, cause_of, event_told, given_at, no_cause, shown_text, the_end, trail}
+use Rattle.replay.specs.Shown.{Cause, Given, Scene, Told, a_set, all_told, an_out, cause_after, cause_of, comment_told, event_told, given_at, no_cause, shown_text, the_end, trail}
 use Rattle.replay.specs.declared.last_packets.LastPacket.{LastPacket}
 use Rattle.replay.specs.declared.shown.Shown.{Shown}
 
@@ -128,13 +128,13 @@ abbrev pub numbers_of : Configuration → Numbers
 numbers_of c = record { endpoints = length c.endpoints; workers = c.workers }
 
 -- a line that can be read leads to this world, and this is told
-abbrev pub ScriptLinePlays : Configuration → WorldState → ScriptLine → WorldState → List Told → Type 0
-ScriptLinePlays c w Skipped next told = (next ≡ w) × (told ≡ [])
-ScriptLinePlays c w (ACommand command) next told = CommandPlays c w command next told
-ScriptLinePlays c w Unreadable next told = ⊥
+abbrev pub ScriptLinePlays : Configuration → List ℕ → WorldState → ScriptLine → WorldState → List Told → Type 0
+ScriptLinePlays c line w Skipped next told = (next ≡ w) × (told ≡ comment_told line)
+ScriptLinePlays c line w (ACommand command) next told = CommandPlays c w command next told
+ScriptLinePlays c line w Unreadable next told = ⊥
 
 abbrev pub LinePlays : Configuration → List ℕ → WorldState → WorldState → List Told → Type 0
-LinePlays c line w next told = ScriptLinePlays c w (script_line_of (numbers_of c) line) next told
+LinePlays c line w next told = ScriptLinePlays c line w (script_line_of (numbers_of c) line) next told
 
 -- the latest event once the line of this number is read
 abbrev pub cause_behind : Configuration → ℕ → List ℕ → Cause → Cause

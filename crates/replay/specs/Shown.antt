@@ -23,7 +23,7 @@ use Rattle.replay.specs.declared.shown.Shown.{Shown}
 use Rattle.replay.specs.declared.shown.Unknown.{Unknown}
 use Rattle.replay.specs.declared.shown.Unknown.TheVariants as unknown
 use Rattle.replay.specs.LastPackets.{no_packet, packets_after}
-use Rattle.replay.specs.Marks.{is_made_mark}
+use Rattle.replay.specs.Marks.{is_made_mark, is_stranger_line}
 use Rattle.replay.specs.OutText.{out_line}
 use Rattle.replay.specs.Utc.{clock_text, moment_text}
 
@@ -95,17 +95,23 @@ cause_at number line (Some input) before = record {
 abbrev pub cause_after : ℕ → List ℕ → ScriptLine → Cause → Cause
 cause_after number line reading before = cause_at number line (script_line_input reading) before
 
--- that an event came, what the machine gave out, the line of a set that the script shows, or that the script is over
+-- that an event came, what the machine gave out, the line of a set that the script shows, a comment for an unknown sender, or that the script
+-- is over
 pub data Told : Type 0 where
   an_event : Told
   an_out : Out → Told
   a_set : List ℕ → Told
+  a_comment : List ℕ → Told
   the_end : Told
 
 -- what is told first of a line, by whether it is an event
 abbrev pub event_told : Bool → List Told
 event_told true = an_event ∷ []
 event_told false = []
+
+-- what is told of a line that is no command
+abbrev pub comment_told : List ℕ → List Told
+comment_told line = if is_stranger_line line then a_comment line ∷ [] else []
 
 -- what is told of a command that gave these out
 abbrev pub all_told : Command → List Out → List Told
@@ -248,6 +254,7 @@ is_chosen t s incoming an_event =
 is_chosen t s incoming (an_out out) =
     is_to_chosen t s.only_endpoint incoming out && is_on_chosen t s.only_leg incoming out
 is_chosen t s incoming (a_set text) = true
+is_chosen t s incoming (a_comment text) = false
 is_chosen t s incoming the_end = false
 
 -- whether what a script gives is shown: it follows from an event of this moment or a later one, and is of
@@ -316,18 +323,25 @@ open_gaps v last cause zero = []
 open_gaps v last cause (suc leg) =
     open_gaps v last cause leg ++ open_gap v cause leg (slice_index_or last leg no_packet)
 
--- the gaps that end where this is told
-abbrev pub gaps_told : Scene → List LastPacket → Cause → Told → List ℕ
-gaps_told v last cause an_event = []
-gaps_told v last cause (an_out out) = gap_before v last cause (leg_sent v.table out)
-gaps_told v last cause (a_set text) = []
-gaps_told v last cause the_end = open_gaps v last cause (length v.table.legs)
+-- a comment is shown among events, behind an event of this moment or a later one, whichever leg or endpoint is chosen
+abbrev pub comment_line : Scene → Cause → List ℕ → List ℕ
+comment_line v cause text =
+    if v.shown.events && nat_le v.shown.from_ms cause.moment then text ++ codes "\n" else []
+
+-- the gaps that end where this is told, or the comment that it is
+abbrev pub told_beside : Scene → List LastPacket → Cause → Told → List ℕ
+told_beside v last cause an_event = []
+told_beside v last cause (an_out out) = gap_before v last cause (leg_sent v.table out)
+told_beside v last cause (a_set text) = []
+told_beside v last cause (a_comment text) = comment_line v cause text
+told_beside v last cause the_end = open_gaps v last cause (length v.table.legs)
 
 -- the last packet of each leg once this is told
 abbrev pub last_told : Scene → List LastPacket → Cause → Told → List LastPacket
 last_told v last cause an_event = last
 last_told v last cause (an_out out) = packets_after last (leg_sent v.table out) (packet_at cause)
 last_told v last cause (a_set text) = last
+last_told v last cause (a_comment text) = last
 last_told v last cause the_end = last
 
 -- ---- its text
@@ -358,6 +372,7 @@ abbrev pub told_text : Scene → ℕ → Cause → Told → List ℕ
 told_text v said cause an_event = new_line v said cause
 told_text v said cause (an_out out) = heading v said cause ++ out_line out
 told_text v said cause (a_set text) = heading v said cause ++ text
+told_text v said cause (a_comment text) = []
 told_text v said cause the_end = []
 
 abbrev pub shown_line : Scene → ℕ → Given → List ℕ
@@ -379,7 +394,7 @@ trail_after v t g = trail (said_after v t.said g) (last_told v t.last g.cause g.
 
 -- the lines of one that a script gives: of the gaps that end there, and its own, if it is shown
 abbrev pub lines_at : Scene → Trail → Given → List ℕ
-lines_at v t g = gaps_told v t.last g.cause g.told ++ shown_line v t.said g
+lines_at v t g = told_beside v t.last g.cause g.told ++ shown_line v t.said g
 
 -- the lines of these, one after the other
 abbrev pub lines_behind : Scene → Trail → List Given → List ℕ

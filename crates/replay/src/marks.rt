@@ -1,7 +1,7 @@
 //! The comment lines of a record that are shown among events.
 
 ghost use Rattle.std.specs.Prelude.{◌≡◌};
-ghost use Rattle.replay.specs.Marks.{begins_with, is_made_mark};
+ghost use Rattle.replay.specs.Marks.{begins_with, is_made_mark, is_stranger_line};
 
 use request_text::is_word;
 
@@ -11,6 +11,14 @@ pub(crate) fn is_made_mark(line: &[u8]) -> bool
     ensures { result ≡ is_made_mark line.now }
 {
     begins_with(b"# made in its name", line)
+}
+
+/// Whether a line says that an unknown sender came.
+#[tactic(auto, unfolding(crate::specs::Marks::is_stranger_line))]
+pub(crate) fn is_stranger_line(line: &[u8]) -> bool
+    ensures { result ≡ is_stranger_line line.now }
+{
+    begins_with(b"# stranger ", line)
 }
 
 /// Whether a line begins so.

@@ -4,12 +4,13 @@ ghost use Rattle.std.specs.Prelude.{◌≡◌, ◌++◌, ◌∷◌, ℕ, [], Lis
 ghost use Rattle.std.specs.Io.KnownBytes.{Appends};
 ghost use Rattle.replay.specs.OutText.{out_line};
 ghost use Rattle.replay.specs.Printing.{PrintsGiven, scene_of};
-ghost use Rattle.replay.specs.Shown.{a_set, an_event, an_out, cause_of, dated_line, event_line, event_told, given_at, heading, is_shown, mark_line, new_line, said_after, shown_line, the_end, trail};
+ghost use Rattle.replay.specs.Shown.{a_set, an_event, an_out, cause_of, comment_line, comment_told, dated_line, event_line, event_told, given_at, heading, is_shown, mark_line, new_line, said_after, shown_line, the_end, trail};
 ghost use Rattle.replay.specs.declared.last_packets.LastPacket.{LastPacket};
 
 use crate::gaps::{leg_sent, print_gap_before, print_open_gaps};
 use crate::last_packets::LastPackets;
 use crate::latest::Latest;
+use crate::marks::is_stranger_line;
 use crate::out_text::out_line;
 use crate::shown::Shown;
 use crate::utc::clock_text;
@@ -139,6 +140,45 @@ pub fn print_set<O: Write>(
     }
     print_line(alloc, choice, latest, said, text.as_bytes(), writer)?;
     Ok(latest.number)
+}
+
+/// Prints a line that is no command, if it is a comment that is shown.
+#[tactic(auto, using(crate::proofs::ShownLemmas::comment_printed, crate::proofs::ShownLemmas::comment_passed))]
+pub(crate) fn print_comment<O: Write>(
+    choice: Choice<'_>,
+    latest: Latest<'_>,
+    line: &[u8],
+    writer: &mut O,
+) -> io::Result<()>
+    ensures printed { OnOk result ((said : ℕ) (last : List LastPacket) → PrintsGiven
+        (scene_of choice.entry) (trail said last)
+        (given_at (cause_of latest.entry) (comment_told line.now)) (trail said last)
+        (O.contents writer.old) (O.contents writer.new)) }
+{
+    if !is_stranger_line(line) {
+        return Ok(());
+    }
+    print_comment_line(choice, latest, line, writer)?;
+    Ok(())
+}
+
+/// Prints a comment, if it is shown.
+fn print_comment_line<O: Write>(
+    choice: Choice<'_>,
+    latest: Latest<'_>,
+    line: &[u8],
+    writer: &mut O,
+) -> io::Result<()>
+    ensures printed { OnOk result (Appends (O.contents writer.old) (O.contents writer.new)
+        (comment_line (scene_of choice.entry) (cause_of latest.entry) line.now)) }
+{
+    let is_shown = choice.shown.events && choice.shown.from_ms <= latest.input.moment;
+    if !is_shown {
+        return Ok(());
+    }
+    writer.write_all(line)?;
+    writer.write_all(b"\n")?;
+    Ok(())
 }
 
 /// Prints the lines of the gaps that last when the script is over.

@@ -12,7 +12,7 @@ use crate::giving::{Gives, end_all, print_all};
 use crate::head::clock_in;
 use crate::last_packets::LastPackets;
 use crate::latest::{Latest, command_input};
-use crate::printing::Choice;
+use crate::printing::{Choice, print_comment};
 use crate::script::{Command, Numbers, ScriptLine, read_line};
 use crate::shown::Shown;
 use cli::{Failure, Status, report};
@@ -185,10 +185,11 @@ fn play_line<'t, O: Write>(
     let reading = read_line(alloc, numbers_of(choice.settings), line)?;
     let latest = progress.latest.after(number, line, &reading);
     match reading {
-        ScriptLine::Skipped => Ok(Progress {
-            latest,
-            said: progress.said,
-        }),
+        ScriptLine::Skipped => {
+            print_comment(choice, latest, line, writer)?;
+            let said = progress.said;
+            Ok(Progress { latest, said })
+        }
         ScriptLine::Command(command) => {
             let gives = play_command(alloc, choice.settings, world, command)?;
             let said = print_all(

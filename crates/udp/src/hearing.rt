@@ -393,7 +393,7 @@ impl<'a> Hearing<'a> {
     {
         let packets = &self.kept.buffer.as_slice()[from..to];
         self.run_status
-            .count_stranger(address, media_source(packets));
+            .count_stranger(address, media_source(packets), source_named(packets));
     }
 
     /// What is heard of an endpoint's packets: they are read, their endpoint is welcomed, and they are counted and judged.
