@@ -30,6 +30,8 @@ import tempfile
 import threading
 import time
 
+# As long a name as there may be.
+LONG = "the-camera-in-the-great-hall.top"
 SETTINGS = """workers = 1
 ring = 64
 history = 1024
@@ -42,7 +44,7 @@ listen = "127.0.0.1:{unit}"
 
 [[endpoint]]
 ssrc = 16
-name = "ann"
+name = "{long}"
 address = "127.0.0.1:{first}"
 
 [[endpoint]]
@@ -320,6 +322,10 @@ class Browser:
             fail(f"the page is wider than {width} pixels")
         if cut := self.value("[...document.querySelectorAll('td, dd')].filter(it => it.scrollWidth > it.clientWidth).map(it => it.textContent).join()"):
             fail(f"at {width} pixels {cut} is cut off")
+        label = "getComputedStyle(it, '::before')"
+        if broken := self.value(f"[...document.querySelectorAll('.cards td')].filter(it => parseFloat({label}.height) > "
+                                f"2 * parseFloat({label}.fontSize)).map(it => it.dataset.name).join()"):
+            fail(f"at {width} pixels the label {broken} is broken")
         with open(path, "wb") as it:
             it.write(base64.b64decode(self.call("Page.captureScreenshot", format="png", captureBeyondViewport=True)["data"]))
 
@@ -343,9 +349,9 @@ def shown(browser, folder):
     browser.says(cells("legs", 2), "on|on|off")
     browser.says("[...document.querySelectorAll('#matrix tbody tr')].map(it => [...it.children].map(cell => cell.textContent || "
                  "(cell.firstElementChild ? cell.firstElementChild.getAttribute('aria-label') : '-')).join(' ')).join('|')",
-                 "ann (0) - on|ben@192.0.2.8 (1) on -|2 off -")
-    browser.says(cells("endpoints", 1), "ann (0)|ben@192.0.2.8 (1)|2")
-    browser.says(cells("legs", 3), "ann (0)|ben@192.0.2.8 (1)|ann (0)")
+                 f"{LONG} (0) - on|ben@192.0.2.8 (1) on -|2 off -")
+    browser.says(cells("endpoints", 1), f"{LONG} (0)|ben@192.0.2.8 (1)|2")
+    browser.says(cells("legs", 3), f"{LONG} (0)|ben@192.0.2.8 (1)|{LONG} (0)")
     browser.says("[...document.querySelectorAll('#gallery img')].map(it => it.naturalWidth > 0 && new URL(it.src).pathname).join('|')",
                  "/publishers/0.svg|/publishers/1.svg")
     # Of each endpoint a curve of at least three dots, the rate of both that send.
@@ -473,7 +479,7 @@ def main():
     ports = {name: free_port(socket.SOCK_DGRAM) for name in ("unit", "first", "second", "absent")}
     control, settings = f"{folder}/control", f"{folder}/room.toml"
     with open(settings, "w", encoding="ascii") as it:
-        it.write(SETTINGS.format(**ports))
+        it.write(SETTINGS.format(**ports, long=LONG))
     page, browser = None, None
     if len(sys.argv) > 3:
         port = int(sys.argv[3])

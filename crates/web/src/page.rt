@@ -90,16 +90,17 @@ footer { margin-top: 1rem; }
   dl { grid-template-columns: 1fr 1fr; }
   .cards, .cards tbody { display: block; }
   .cards thead { position: absolute; width: 1px; height: 1px; overflow: hidden; clip-path: inset(50%); }
-  .cards tr { display: grid; grid-template-columns: 1fr 1fr; gap: .1rem 1.4rem; padding: .6rem 0; border-bottom: 1px solid var(--line); }
+  .cards tr { display: grid; grid: auto-flow dense / 1fr 1fr; gap: .1rem 1.4rem; padding: .6rem 0; border-bottom: 1px solid var(--line); }
   .cards tr:first-child { padding-top: 0; }
   .cards tr:last-child { padding-bottom: 0; border-bottom: 0; }
   .cards td { display: flex; justify-content: space-between; align-items: baseline; gap: .6rem; padding: 0; border: 0; min-width: 0; }
-  .cards td::before { content: attr(data-name); color: var(--soft); font-size: .85rem; }
+  .cards td::before { content: attr(data-name); flex: none; color: var(--soft); font-size: .85rem; white-space: nowrap; }
   .cards td:first-child { position: static; justify-content: flex-start; font-weight: 600; }
   .cards td:first-child::before { color: inherit; font-size: inherit; }
   .cards .whole { grid-column: 1 / -1; }
-  .cards .called { max-width: none; white-space: normal; overflow-wrap: anywhere; }
+  .cards .called { grid-column: 1 / -1; max-width: none; white-space: normal; overflow-wrap: anywhere; }
   .cards .curve { flex: 1; max-width: 68%; }
+  #matrix th { max-width: 8rem; white-space: normal; overflow-wrap: anywhere; }
 }
 </style>
 </head>

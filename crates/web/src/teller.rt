@@ -19,7 +19,7 @@ use std::alloc::{AllocError, Global};
 /// What a browser may do with the page: it uses the page's own style and script, by their SHA-256, and loads from here alone
 /// (Content Security Policy Level 3).
 const PAGE_POLICY: &str = "default-src 'none'; \
-    style-src 'sha256-D+JhhS9oHeGLZMwWAc06beGHlralXuvhPhzoXnESFuc='; \
+    style-src 'sha256-gsLrmL/aFb/EImfVvQU5MyM/e3L1PiyBItZOgr8dxlY='; \
     script-src 'sha256-Gs58eDwky2LUXBfFSD2sprIDy9NX+d82p54HeFRbtZk='; \
     connect-src 'self'; img-src 'self'; base-uri 'none'; form-action 'none'; frame-ancestors 'none'";
 
