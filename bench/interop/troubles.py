@@ -9,8 +9,8 @@ it, how many until the page did, and what one command, `sfu replay` with these o
 to begin with that line. The unit is started anew N times (20), by turns after SIGKILL and SIGTERM (at `stop` it says goodbye, which ends FFmpeg); then the
 table says how long FFmpeg showed no picture.
 
-What can be seen first: a client's first packet; of a viewer that died the moment from which on its last report isn't shown; of loss the second report of the
-viewer since it began.
+What can be seen first: a client's first packet; of a viewer that died the moment from which on its last report isn't shown; of loss the unit's first report to
+the publisher that says so.
 
 The status is 1 if `why` was later than WITHIN seconds, the page later than PAGE_WITHIN or begins with something else, the replay says nothing of it, or the
 viewer was dark for longer than WITHIN. Wanted: what `run.py` wants of FFmpeg and GStreamer. By hand: nothing of it is proved.
@@ -186,10 +186,15 @@ class Conference(Run):
         match = LEG_LINE.match(lines[0])
         return "\n".join([match[2] if match else "", *lines[1:]])
 
-    def lost(self):
-        """How many packets GStreamer reports lost."""
-        match = re.search(r"^leg 1 .* lost (-?\d+) ", self.why(1), re.M)
-        return int(match[1]) if match else 0
+    def lossy_report(self):
+        """When the unit's first report that tells the publisher of loss was sent."""
+        end = time.monotonic() + GIVE_UP
+        while time.monotonic() < end:
+            match = re.search(r"^publisher 0 fraction [1-9]\d* .* sent (\d+) ms ago$", self.ask("reports"), re.M)
+            if match:
+                return time.monotonic() - int(match[1]) / 1000
+            time.sleep(0.02)
+        return None
 
     def next_report(self):
         """When the next report of GStreamer came."""
@@ -242,8 +247,6 @@ class Trouble:
     # What the replay is asked for, and what a line of it says then.
     options: list
     named: object
-    # What else has to hold of what is reported.
-    also: object = lambda: True
 
 
 def says(pattern):
@@ -268,7 +271,7 @@ def other_port(conference):
     conference.publish(port=OTHER_PORT)
     came = waits(lambda: f":{OTHER_PORT} " in conference.ask("strangers"), time.monotonic() + GIVE_UP)
     reason = f"under the publisher's SSRC packets come from {HOST}:{OTHER_PORT}, the last "
-    return Trouble(0, reason, made, came, ["--gaps", "1000", "--only-leg", "0"], says(r"^gap 0 \d+ \d+ line [1-9]"))
+    return Trouble(0, reason, made, came, ["--events", "--only-leg", "0"], says(rf"^# stranger {HOST}:{OTHER_PORT} ssrc {SOURCE} at \d+$"))
 
 
 def leg_off(conference):
@@ -283,18 +286,17 @@ def viewer_dead(conference):
     heard = [conference.next_report() for _ in range(2)]
     made = time.monotonic()
     conference.kill(conference.gstreamer)
-    reason = r"sent; the subscriber (only listens, heard|doesn't report, the last) [1-9]\d{4} ms ago"
+    reason = r"sent; the subscriber doesn't report, the last [1-9]\d{4} ms ago"
     shown_for = max(SHOWN, 3 * (heard[1] - heard[0]))
-    return Trouble(1, reason, made, heard[1] + shown_for, ["--only-endpoint", "2", "--events"], is_made)
+    return Trouble(1, reason, made, heard[1] + shown_for, ["--events", "--only-endpoint", "2"], says(r"^# made in its name, heard at \d+$"))
 
 
 def lossy(conference):
     """The publisher's Wi-Fi loses a share of its packets."""
-    before, made = conference.lost(), time.monotonic()
+    made = time.monotonic()
     conference.wifi.is_bad = True
-    seen = [conference.next_report() for _ in range(2)][-1]
-    reason = r"sent; the subscriber reports; [1-9]\d* packets a second"
-    return Trouble(1, reason, made, seen, ["--only-endpoint", "0"], has_loss, lambda: conference.lost() > before)
+    reason = r"sent; packets are lost on the way from the publisher; [1-9]\d* packets a second"
+    return Trouble(1, reason, made, conference.lossy_report(), ["--only-endpoint", "0"], has_loss)
 
 
 def packets_of(datagram):
@@ -309,11 +311,6 @@ def datagram_in(line):
     """The datagram that a line of a replay ends with."""
     digits = line.rpartition(" ")[2]
     return bytes.fromhex(digits) if re.fullmatch("([0-9a-f]{2})+", digits) else b""
-
-
-def is_made(line):
-    """Whether it says that what follows was made in a viewer's name: of one that is dead nothing else comes."""
-    return line == "# made in its name"
 
 
 def has_loss(line):
@@ -341,7 +338,7 @@ def meet(name):
         conference.settled()
         trouble = make(conference)
         until = max(trouble.seen or 0, time.monotonic()) + GIVE_UP
-        said = waits(lambda: re.match(trouble.says, conference.why(trouble.leg)) and trouble.also(), until)
+        said = waits(lambda: re.match(trouble.says, conference.why(trouble.leg)), until)
         words = conference.why(trouble.leg).splitlines()[0]
         shown = said and waits(lambda: re.match(trouble.says, conference.first_of_page(trouble.leg)), said + GIVE_UP)
         time.sleep(1)
@@ -372,7 +369,7 @@ def short(lines):
 
 def begins_at(clock, lines):
     """Whether what is replayed begins at this time by the wall clock, give and take a second: that is when the unit was started."""
-    first = lines[0].partition(" ")[0] if lines else ""
+    first = next((it.partition(" ")[0] for it in lines if not it.startswith("#")), "")
     if not re.fullmatch(r"\d{4}-\d\d-\d\dT\d\d:\d\d:\d\d\.\d{3}Z", first):
         return False
     return abs(datetime.datetime.fromisoformat(first.replace("Z", "+00:00")).timestamp() - clock) < 1
