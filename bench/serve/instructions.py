@@ -1,9 +1,10 @@
 #!/usr/bin/env python3
-"""How many instructions `sfu serve` takes for a datagram, outside the kernel: instructions.py PROGRAM [FILE]. Wants valgrind; takes minutes.
+"""How many instructions `sfu serve` takes for a datagram, outside the kernel: instructions.py [--learn] PROGRAM [FILE]. Wants valgrind; takes
+minutes.
 
 What else the machine does changes none of it, unlike time. One worker, one publisher and one subscriber: a packet of 1,200 bytes that is sent on, and from
 the subscriber a report with SDES, and NACKs of packets that aren't kept. Callgrind counts a run with 4,000 of them and one with none; what is printed is
-the difference, for each. With FILE the unit has the rules of that file of settings (examples/serve.toml).
+the difference, for each. With FILE the unit has the rules of that file of settings (examples/serve.toml), with --learn it learns both SSRCs.
 """
 import os
 import re
@@ -83,13 +84,13 @@ def waiting(port):
 class Unit:
     """The program in valgrind, with a full ring."""
 
-    def __init__(self, program, rules, work):
+    def __init__(self, program, settings, work):
         self.publisher, self.subscriber = bound(), bound()
         with bound() as free:
             self.at = free.getsockname()
         file = os.path.join(work, "room.toml")
         with open(file, "w", encoding="utf-8") as it:
-            it.write(rules + SETTINGS.format(self.at[1], self.publisher.getsockname()[1], self.subscriber.getsockname()[1]))
+            it.write(settings.format(self.at[1], self.publisher.getsockname()[1], self.subscriber.getsockname()[1]))
         words = ["valgrind", "--tool=callgrind", "--callgrind-out-file=/dev/null", program, "serve", file]
         self.process = subprocess.Popen(words, stderr=subprocess.PIPE, stdout=subprocess.DEVNULL, text=True)
         while not (line := self.process.stderr.readline()).startswith("serving"):
@@ -128,11 +129,11 @@ class Unit:
         return int(re.search(r"Collected : (\d+)", said)[1])
 
 
-def counted(program, rules, work, datagram):
+def counted(program, settings, work, datagram):
     """How many instructions a datagram takes; without one, a packet that is sent on."""
     totals = []
     for count in (0, COUNTED):
-        unit = Unit(program, rules, work)
+        unit = Unit(program, settings, work)
         if datagram is None:
             unit.send_packets(count + 1)
         else:
@@ -142,12 +143,15 @@ def counted(program, rules, work, datagram):
 
 
 def main():
-    program = os.path.abspath(sys.argv[1])
-    rules = rules_of(sys.argv[2]) if len(sys.argv) > 2 else ""
+    learns, (program, *file) = "--learn" in sys.argv, [it for it in sys.argv[1:] if it != "--learn"]
+    settings = (rules_of(file[0]) if file else "") + SETTINGS
+    if learns:
+        settings = re.sub(r"(?m)^ssrc = \d+", 'ssrc = "learn"', settings)
+    program = os.path.abspath(program)
     rows = [("packet, sent on", None), ("report and SDES", report()), ("NACK of 1 entry", nack(1)), ("NACK of 256 entries", nack(256))]
     with tempfile.TemporaryDirectory() as work:
         for name, datagram in rows:
-            print(f"{name}: {counted(program, rules, work, datagram):.0f} instructions", flush=True)
+            print(f"{name}: {counted(program, settings, work, datagram):.0f} instructions", flush=True)
 
 
 main()

@@ -14,7 +14,7 @@ use Rattle.addresses.specs.declared.clients.Location.TheVariants.{Fixed, Learned
 use Rattle.addresses.specs.declared.network.Network.{Network}
 use Rattle.addresses.specs.Network.{SpellsNetwork, SpellsNoNetwork}
 use Rattle.addresses.specs.declared.clients.AddressKey.{AddressKey}
-use Rattle.addresses.specs.declared.clients.AddressKey.TheVariants.{Address, LearnFrom, ReceiveOnly, RtcpAddress}
+use Rattle.addresses.specs.declared.clients.AddressKey.TheVariants.{Address, LearnFrom, ReceiveOnly, RtcpAddress, Ssrc}
 use Rattle.addresses.specs.declared.clients.ClientFault.{ClientFault}
 use Rattle.addresses.specs.declared.clients.ClientFault.TheVariants.{NoMemory, Endpoint}
 
@@ -84,6 +84,7 @@ SpellsNoBound listen (Some text) =
 abbrev pub client_at : SocketAddr → Client
 client_at address = record {
   location = Fixed (record { media = address; rtcp = address });
+  learns_ssrc = false;
   receive_only = false;
 }
 
@@ -96,18 +97,19 @@ SpellsFixed same listen text (Fixed places) =
     × SpellsRtcp same listen text.rtcp_address places.media places.rtcp
     × (text.learn_from ≡ None)
 
--- the client whose address is learned: nothing else is said of addresses, and it speaks for itself
+-- the client whose address is learned: nothing else is said of addresses, it speaks for itself, and its SSRC is said
 abbrev pub SpellsLearned : Listening → ClientText → Location → Type 0
 SpellsLearned listen text (Fixed places) = ⊥
 SpellsLearned listen text (Learned within) =
     SpellsBound listen text.learn_from within × (text.rtcp_address ≡ None)
-    × (text.receive_only ≡ false)
+    × (text.receive_only ≡ false) × (text.learns_ssrc ≡ false)
 
 -- the client that the texts spell
 pub record SpellsClient (same : SocketAddr → SocketAddr → Bool) (listen : Listening)
     (text : ClientText) (client : Client) : Type 0 where
   pub fixed : ¬ (IsLearned text.address) → SpellsFixed same listen text client.location
   pub learned : IsLearned text.address → SpellsLearned listen text client.location
+  pub learns_ssrc : client.learns_ssrc ≡ text.learns_ssrc
   pub receive_only : client.receive_only ≡ text.receive_only
 
 -- the first key that is wrong of a client that is at its addresses
@@ -121,6 +123,7 @@ FixedFault same listen text ReceiveOnly = ⊥
 FixedFault same listen text RtcpAddress =
     ((address : SocketAddr) × SpellsReachable same listen text.address address)
     × (text.learn_from ≡ None) × SpellsNoRtcp same listen text.rtcp_address
+FixedFault same listen text Ssrc = ⊥
 
 -- and of one whose address is learned
 abbrev pub LearnedFault : Listening → ClientText → AddressKey → Type 0
@@ -132,6 +135,9 @@ LearnedFault listen text ReceiveOnly =
 LearnedFault listen text RtcpAddress =
     ((within : Option Network) × SpellsBound listen text.learn_from within)
     × (text.receive_only ≡ false) × (text.rtcp_address ≢ None)
+LearnedFault listen text Ssrc =
+    ((within : Option Network) × SpellsBound listen text.learn_from within)
+    × (text.receive_only ≡ false) × (text.rtcp_address ≡ None) × (text.learns_ssrc ≡ true)
 
 -- The first key that is wrong.
 pub record SpellsNone (same : SocketAddr → SocketAddr → Bool) (listen : Listening)
@@ -174,3 +180,4 @@ key_text Address = codes "address"
 key_text LearnFrom = codes "learn_from"
 key_text ReceiveOnly = codes "receive_only"
 key_text RtcpAddress = codes "rtcp_address"
+key_text Ssrc = codes "ssrc"

@@ -11,3 +11,5 @@ pub mod AddressBook
 pub mod Places
 pub mod ServedFile
 pub mod Strangers
+pub mod SeatPlaces
+pub mod Seating

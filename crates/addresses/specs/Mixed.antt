@@ -1,5 +1,5 @@
 -- What clients may not share, and formats of no listed payload type: faults behind all others.
-use Rattle.std.specs.Prelude.{◌&&◌, Bool, false, not, List, map, Option, option_map, codes, position, string_bytes}
+use Rattle.std.specs.Prelude.{◌&&◌, ◌||◌, ℕ, nat_lt, Bool, false, not, List, filter, length, map, Option, option_map, codes, position, string_bytes}
 use Rattle.std.specs.List.{list_any}
 use Rattle.std.specs.declared.net.socket_addr.SocketAddr.{SocketAddr}
 use Rattle.addresses.specs.declared.clients.Client.{Client}
@@ -24,10 +24,35 @@ is_mixed same clients (Learned within) = false
 abbrev pub is_odd : ClientText → Bool
 is_odd text = has_stray (map string_bytes text.rtpmap.items) (map string_bytes text.fmtp.items)
 
--- Where the first such fault stands: an address that is another's for RTCP alone comes before formats.
+-- the address is one of these
+abbrev pub is_at : (SocketAddr → SocketAddr → Bool) → SocketAddr → Location → Bool
+is_at same address (Fixed places) = same address places.media || same address places.rtcp
+is_at same address (Learned within) = false
+
+-- both have an address in common
+abbrev pub meets : (SocketAddr → SocketAddr → Bool) → Location → Location → Bool
+meets same (Fixed places) other = is_at same places.media other || is_at same places.rtcp other
+meets same (Learned within) other = false
+
+abbrev pub clients_there : (SocketAddr → SocketAddr → Bool) → List Client → Location → ℕ
+clients_there same clients location =
+    length (filter (λ client. meets same client.location location) clients)
+
+-- the SSRC of a client is learned, and it isn't the only one at its addresses
+abbrev pub is_taken : (SocketAddr → SocketAddr → Bool) → List Client → Client → Bool
+is_taken same clients client =
+    client.learns_ssrc && nat_lt 1 (clients_there same clients client.location)
+
+abbrev pub first_taken : (SocketAddr → SocketAddr → Bool) → List Client → Option ℕ
+first_taken same clients = position (is_taken same clients) clients
+
+-- Where the first such fault stands: an address that is another's for RTCP alone comes before formats, and these before an SSRC that is learned at
+-- another's address.
 abbrev pub mixed_spot : (SocketAddr → SocketAddr → Bool) → List Client → List ClientText → Option Spot
 mixed_spot same clients texts =
     or_else
     (option_map (λ number. endpoint number (codes "address"))
     (position (λ client. is_mixed same clients client.location) clients))
+    (or_else
     (option_map (λ number. endpoint number (codes "fmtp")) (position is_odd texts))
+    (option_map (λ number. endpoint number (codes "ssrc")) (first_taken same clients)))

@@ -24,6 +24,8 @@ pub struct Listening {
 #[derive(Clone, Copy)]
 pub struct Client {
     pub location: Location,
+    /// Whether the SSRC under which it sends is learned.
+    pub learns_ssrc: bool,
     /// Whether it is present whatever it says.
     pub receive_only: bool,
 }
@@ -56,18 +58,20 @@ impl Client {
                 media: address,
                 rtcp: address,
             }),
+            learns_ssrc: false,
             receive_only: false,
         }
     }
 }
 
-/// A key of an endpoint that says where its client is.
+/// A key of an endpoint that says where its client is, or under which SSRC it sends.
 #[derive(Clone, Copy, PartialEq, Eq)]
 pub enum AddressKey {
     Address,
     LearnFrom,
     ReceiveOnly,
     RtcpAddress,
+    Ssrc,
 }
 
 impl AddressKey {
@@ -83,6 +87,7 @@ impl AddressKey {
             AddressKey::LearnFrom => "learn_from",
             AddressKey::ReceiveOnly => "receive_only",
             AddressKey::RtcpAddress => "rtcp_address",
+            AddressKey::Ssrc => "ssrc",
         }
     }
 }
@@ -147,7 +152,8 @@ pub(crate) fn client_in(listen: Listening, text: &ClientText) -> Result<Client, 
     }
 }
 
-/// The client whose address is learned; else the first key that can't be said of one, or that spells no network.
+/// The client whose address is learned; else the first key that can't be said of one, or that spells no network. Its SSRC is said: by that it is
+/// known who comes.
 fn learner_in(listen: Listening, text: &ClientText) -> Result<Client, AddressKey>
     requires { IsLearned text.now.address }
     ensures { MatchResult result (SpellsClient ⟦<SocketAddr as PartialEq>⟧.eq listen text.now)
@@ -162,8 +168,12 @@ fn learner_in(listen: Listening, text: &ClientText) -> Result<Client, AddressKey
     if text.rtcp_address.is_some() {
         return Err(AddressKey::RtcpAddress);
     }
+    if text.learns_ssrc {
+        return Err(AddressKey::Ssrc);
+    }
     Ok(Client {
         location: Location::Learned(within),
+        learns_ssrc: false,
         receive_only: false,
     })
 }
@@ -185,6 +195,7 @@ fn settled_in(listen: Listening, text: &ClientText) -> Result<Client, AddressKey
     };
     Ok(Client {
         location: Location::Fixed(Addresses { media, rtcp }),
+        learns_ssrc: text.learns_ssrc,
         receive_only: text.receive_only,
     })
 }

@@ -10,7 +10,7 @@ use crate::mixed::mixed_place;
 use policy::{ResendBounds, Rules};
 use settings::Settings;
 use settings_toml::{
-    BoundKeys, ClientText, FileSettings, Place, SettingsProblem, items_at, problem_at,
+    BoundKeys, ClientText, FileSettings, Place, SettingsProblem, items_at, learns_ssrc, problem_at,
     read_settings,
 };
 use std::alloc::Global;
@@ -171,6 +171,7 @@ fn misplaced_key(alloc: Global, listen: Listening, endpoint: &Value) -> Option<A
         address: copied(alloc, endpoint.get("address")),
         learn_from: copied(alloc, endpoint.get("learn_from")),
         rtcp_address: copied(alloc, endpoint.get("rtcp_address")),
+        learns_ssrc: learns_ssrc(endpoint),
         receive_only: truth_of(endpoint.get("receive_only")),
         rtpmap: Vec::new(alloc),
         fmtp: Vec::new(alloc),

@@ -76,6 +76,15 @@ abbrev pub listening_word : Bool → List ℕ
 listening_word true = codes " receive_only"
 listening_word false = []
 
+-- under which SSRC its client sends, and under which it asks
+abbrev pub sends_part : Option Ssrc → List ℕ
+sends_part None = []
+sends_part (Some source) = codes " sends " ++ decimal source.0
+
+abbrev pub asks_part : Option Ssrc → List ℕ
+asks_part None = []
+asks_part (Some source) = codes " asks " ++ decimal source.0
+
 -- under which SSRC that isn't its own an RTP packet came from its address last
 abbrev pub other_source_part : Option Ssrc → List ℕ
 other_source_part None = []
@@ -87,10 +96,11 @@ name_end name = codes " name " ++ (name ++ codes "\n")
 
 abbrev pub end_part : EndpointLine → List ℕ
 end_part l =
-    listening_word l.only_listens ++ (other_source_part l.other_source ++ name_end l.name.now)
+    listening_word l.only_listens
+    ++ (sends_part l.sends ++ (asks_part l.asks ++ (other_source_part l.other_source ++ name_end l.name.now)))
 
--- The line of an endpoint: who it is, when it was heard last, how often something of it was refused, whether it only listens,
--- under which other SSRC it sent, and what it is called.
+-- The line of an endpoint: who it is, when it was heard last, how often something of it was refused, whether it only listens, under which SSRCs its
+-- client sends and asks, and sent otherwise, and what it is called.
 abbrev pub presence_line : EndpointLine → List ℕ
 presence_line l =
     who_part l.endpoint l.source.0 l.address l.is_present

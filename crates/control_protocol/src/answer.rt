@@ -2,7 +2,7 @@
 
 ghost use Rattle.std.specs.Prelude.{◌≡◌, ◌++◌, codes, IfOk, OnOk};
 ghost use Rattle.std.specs.String.{string_bytes};
-ghost use Rattle.control_protocol.specs.Answers.{counts_lines, end_part, flow_part, heard_part, listening_word, loss_part, name_end, other_source_part, presence_line, refusal_text, refused_part, stranger_line, unheard_part, unread_part, who_part};
+ghost use Rattle.control_protocol.specs.Answers.{asks_part, counts_lines, end_part, flow_part, heard_part, listening_word, loss_part, name_end, other_source_part, presence_line, refusal_text, refused_part, sends_part, stranger_line, unheard_part, unread_part, who_part};
 
 use ports::Status;
 use std::alloc::{AllocError, Global};
@@ -139,6 +139,10 @@ pub struct EndpointLine<'a> {
     pub refused: u64,
     /// Whether it is present whatever it says.
     pub only_listens: bool,
+    /// Under which SSRC its client sends, if that is learned; `None` if it isn't, or isn't known yet.
+    pub sends: Option<Ssrc>,
+    /// Under which it asked last, likewise.
+    pub asks: Option<Ssrc>,
     /// Under which other SSRC an RTP packet came from its address last; `None` if none did.
     pub other_source: Option<Ssrc>,
     /// What it is called.
@@ -146,8 +150,8 @@ pub struct EndpointLine<'a> {
 }
 
 /// The line of an endpoint for `present`: its number, source and address, and whether it is present. Then how many milliseconds ago it was heard
-/// last, if ever, and how often something of it was refused; that it only listens, if it does, and under which other SSRC it sent last. At
-/// last what it is called. Refused for want of memory alone.
+/// last, if ever, and how often something of it was refused; that it only listens, if it does, under which SSRCs its client sends and asks, if these
+/// were learned, and under which other one it sent last. At last what it is called. Refused for want of memory alone.
 pub fn present_line(alloc: Global, line: &EndpointLine<'_>) -> Result<String, AllocError>
     ensures { IfOk result (λ text. string_bytes text ≡ presence_line line.now) }
 {
@@ -169,6 +173,8 @@ fn push_end(text: &mut String, line: &EndpointLine<'_>) -> Result<(), AllocError
     ensures { OnOk result (string_bytes text.new ≡ string_bytes text.old ++ end_part line.now) }
 {
     text.push_str(listening_word(line.only_listens))?;
+    push_sends(text, line.sends)?;
+    push_asks(text, line.asks)?;
     push_other_source(text, line.other_source)?;
     push_name(text, line.name)
 }
@@ -178,6 +184,26 @@ fn listening_word(only_listens: bool) -> &'static str
     ensures { result.now ≡ listening_word only_listens }
 {
     if only_listens { " receive_only" } else { "" }
+}
+
+/// Under which SSRC its client sends.
+fn push_sends(text: &mut String, source: Option<Ssrc>) -> Result<(), AllocError>
+    ensures { OnOk result (string_bytes text.new ≡ string_bytes text.old ++ sends_part source) }
+{
+    match source {
+        Some(source) => write!(text, " sends {}", source.0),
+        None => Ok(()),
+    }
+}
+
+/// Under which it asks.
+fn push_asks(text: &mut String, source: Option<Ssrc>) -> Result<(), AllocError>
+    ensures { OnOk result (string_bytes text.new ≡ string_bytes text.old ++ asks_part source) }
+{
+    match source {
+        Some(source) => write!(text, " asks {}", source.0),
+        None => Ok(()),
+    }
 }
 
 /// Under which other SSRC it sent.

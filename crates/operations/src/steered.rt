@@ -1,6 +1,7 @@
 //! A watch of a unit that may be steered, and whose numbers may be noted.
 
 use crate::run_status::RunStatus;
+use addresses::Directory;
 use desk::Desk;
 use ports::{Look, Status, Watch};
 use stats::Traffic;
@@ -11,6 +12,7 @@ pub struct SteeredWatch<'a, W: Drop> {
     pub watch: W,
     pub run_status: &'a RunStatus,
     pub traffic: &'a Traffic,
+    pub directory: &'a Directory,
 }
 
 impl<W: Watch + Drop> Watch for SteeredWatch<'_, W> {
@@ -37,7 +39,8 @@ impl<W: Watch + Drop> Watch for SteeredWatch<'_, W> {
     fn show_endpoint(&mut self, endpoint: u16, is_present: bool) {
         if let Some(mut steering) = self.run_status.steering() {
             let moment = self.run_status.moment_ms.get();
-            steering.show_endpoint(endpoint, is_present, self.traffic, moment);
+            let naming = self.directory.naming(endpoint);
+            steering.show_endpoint(endpoint, is_present, naming, self.traffic, moment);
         }
     }
 

@@ -23,6 +23,7 @@ fn sent_to_nobody(
 ) -> Result<[u64; 3], Fail> {
     let listener = Client {
         location: Location::Learned(None),
+        learns_ssrc: false,
         receive_only: true,
     };
     let clients = [client_at(publisher)?, listener];

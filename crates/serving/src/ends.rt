@@ -32,7 +32,7 @@ impl Common {
     ) -> Result<Common, AllocError> {
         let sets = AnnouncedSets::new(alloc, settings.endpoints().len(), rules.repeat_ms)?;
         Ok(Common {
-            directory: Directory::new(alloc, clients)?,
+            directory: Directory::new(alloc, settings.endpoints(), clients)?,
             traffic: Traffic::new(alloc, settings)?,
             sets: RefCell::new(sets),
         })
@@ -106,7 +106,8 @@ pub(crate) fn watch_on<'a, W: Watch + Drop>(
         watch,
         run_status,
         traffic,
+        directory,
     };
-    let sink = SocketSink::new(ends.sockets, directory, traffic);
+    let sink = SocketSink::new(alloc, ends.sockets, directory, traffic);
     RepeatingWatch::new(alloc, settings, sink, sets, &run_status.moment_ms, watch)
 }

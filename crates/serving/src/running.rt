@@ -64,7 +64,7 @@ fn leave(
 ) {
     run_status.note_numbers(run_status.moment_ms.get(), &common.traffic);
     if let Some(present) = run_status.present_at_stop() {
-        let mut sink = SocketSink::new(sockets, &common.directory, &common.traffic);
+        let mut sink = SocketSink::new(alloc, sockets, &common.directory, &common.traffic);
         say_goodbyes(alloc, settings, present.as_slice(), &mut sink);
     }
 }
@@ -147,7 +147,7 @@ fn drive<E: Entrance, W: Watch + Drop>(
         ..
     } = ends.common;
     let mut watch = watch;
-    let mut sink = SocketSink::new(ends.sockets, directory, traffic);
+    let mut sink = SocketSink::new(alloc, ends.sockets, directory, traffic);
     match one_thread::run_through(alloc, settings, entrance, &mut sink, &mut watch, pace) {
         Ok(report) => Ok(report_of(report)),
         Err(fault) => Err(ServeFault::from(fault)),

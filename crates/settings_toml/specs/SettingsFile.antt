@@ -1,10 +1,12 @@
 -- What a settings file says: a TOML table, as the parts of a room's settings.
-use Rattle.std.specs.Prelude.{◌≡◌, ◌==◌, ◌||◌, ℕ, ℤ, nat_le, Bool, false, List, [], ◌∷◌, map, Option, None, Some, option_map, option_and_then, unwrap_or, codes, string_bytes, String, if◌then◌else◌}
+use Rattle.std.specs.Prelude.{◌≡◌, ◌==◌, ◌||◌, ◌+◌, ◌%◌, ℕ, ℤ, pos, nat_le, Bool, false, List, [], ◌∷◌, map, Option, None, Some, option_map, option_and_then, unwrap_or, codes, string_bytes, String, if◌then◌else◌}
 use Rattle.std.specs.Global.{Global}
+use Rattle.std.specs.Str.{bytes_eq}
 use Rattle.toml.specs.Data.{Data, Items, Members, array, as_bool, as_integer, as_str, get, get_member, item, no_items}
 use Rattle.settings.specs.declared.parts.Extras.{Extras}
 use Rattle.settings.specs.declared.parts.LegParts.{LegParts}
 use Rattle.settings.specs.declared.parts.Parts.{Parts}
+use Rattle.settings.specs.declared.limits.TheConstants.{SSRCS}
 use Rattle.settings.specs.Settings.{additions_of, checks, configuration_of, first_fault, number_below, number_or_zero, number_within}
 use Rattle.settings_toml.specs.declared.bound_keys.BoundKeys.{BoundKeys}
 use Rattle.settings_toml.specs.declared.bound_keys.TheConstants.{ENTRIES, FLOODS, GAPS_MS, LEAST_REPEAT_MS, LEAST_STALL_MS, REPEATS_MS, SHARES, STALLS_MS}
@@ -43,14 +45,27 @@ texts_of items = map text_of items
 abbrev pub texts_in : Option Data → List (List ℕ)
 texts_in value = texts_of (items_in value)
 
--- what an endpoint's table says of its client: what it is called, the texts of its addresses and of the network that they are learned from,
--- whether it only listens, and what it publishes
+-- what is said of a source that is learned
+abbrev pub is_learn : Option (List ℕ) → Bool
+is_learn None = false
+is_learn (Some text) = bytes_eq text (codes "learn")
+
+abbrev pub says_learn : Option Data → Bool
+says_learn value = is_learn (text_in value)
+
+-- an endpoint's table says that the SSRC of its client is learned
+abbrev pub learns_ssrc : Data → Bool
+learns_ssrc endpoint = says_learn (get (codes "ssrc") endpoint)
+
+-- what an endpoint's table says of its client: what it is called, the texts of its addresses and of the network that they are learned from, whether
+-- its SSRC is learned, whether it only listens, and what it publishes
 pub record ClientSays : Type 0 where
   pub name : Option (List ℕ)
   pub cname : Option (List ℕ)
   pub address : Option (List ℕ)
   pub learn_from : Option (List ℕ)
   pub rtcp_address : Option (List ℕ)
+  pub learns_ssrc : Bool
   pub receive_only : Bool
   pub rtpmap : List (List ℕ)
   pub fmtp : List (List ℕ)
@@ -62,6 +77,7 @@ client_in endpoint = record {
   address = text_in (get (codes "address") endpoint);
   learn_from = text_in (get (codes "learn_from") endpoint);
   rtcp_address = text_in (get (codes "rtcp_address") endpoint);
+  learns_ssrc = learns_ssrc endpoint;
   receive_only = unwrap_or (bool_in (get (codes "receive_only") endpoint)) false;
   rtpmap = texts_in (get (codes "rtpmap") endpoint);
   fmtp = texts_in (get (codes "fmtp") endpoint);
@@ -79,10 +95,23 @@ leg_in leg = record {
 abbrev pub text_bytes : Option (String Global) → Option (List ℕ)
 text_bytes text = option_map string_bytes text
 
--- what an endpoint's table says of the room's settings: its source, and the name of who publishes it
-abbrev pub ssrc_in : Data → Option ℤ
-ssrc_in endpoint = integer_in (get (codes "ssrc") endpoint)
+-- The name of the seat with this number, of a unit with this source: so many behind that and one more, modulo 2^32 (RFC 3550, section 8.1).
+abbrev pub seat_name : Option ℤ → ℕ → Option ℤ
+seat_name unit number =
+    option_map (λ u. pos ((u + 1 + number % SSRCS) % SSRCS)) (number_below unit SSRCS)
 
+-- the source of the endpoint with this number: as its table says, or the name of its seat if its client's is learned
+abbrev pub source_in : Option ℤ → ℕ → Data → Option ℤ
+source_in unit number endpoint =
+    if learns_ssrc endpoint then seat_name unit number
+    else integer_in (get (codes "ssrc") endpoint)
+
+-- the sources of endpoints, of which the first has this number
+abbrev pub sources_from : Option ℤ → ℕ → List Data → List (Option ℤ)
+sources_from unit number [] = []
+sources_from unit number (e ∷ es) = source_in unit number e ∷ sources_from unit (number + 1) es
+
+-- the name of who publishes an endpoint, as its table says
 abbrev pub cname_in : Data → Option (List ℕ)
 cname_in endpoint = text_in (get (codes "cname") endpoint)
 
@@ -93,6 +122,7 @@ client_says client = record {
   address = text_bytes client.address;
   learn_from = text_bytes client.learn_from;
   rtcp_address = text_bytes client.rtcp_address;
+  learns_ssrc = client.learns_ssrc;
   receive_only = client.receive_only;
   rtpmap = map string_bytes client.rtpmap.items;
   fmtp = map string_bytes client.fmtp.items;
@@ -140,7 +170,9 @@ pub record ArePartsOf (t : Members) (p : Parts) : Type 0 where
   pub pli_gap_ms : p.pli_gap_ms ≡ integer_in (get_member (codes "pli_gap_ms") t)
   pub unit_ssrc : p.unit_ssrc ≡ integer_in (get_member (codes "unit_ssrc") t)
   pub cname : text_bytes p.cname ≡ text_in (get_member (codes "cname") t)
-  pub endpoints : p.endpoints.items ≡ map ssrc_in (items_in (get_member (codes "endpoint") t))
+  pub endpoints : p.endpoints.items
+      ≡ sources_from (integer_in (get_member (codes "unit_ssrc") t)) 0
+      (items_in (get_member (codes "endpoint") t))
   pub legs : p.legs.items ≡ map leg_in (items_in (get_member (codes "leg") t))
 
 -- So are the extras.

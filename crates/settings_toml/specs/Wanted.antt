@@ -13,7 +13,7 @@ use Rattle.settings_toml.specs.declared.tick_key.TheConstants.{MOST_TICK_MS}
 use Rattle.settings_toml.specs.declared.wanted.Kind.{Kind}
 use Rattle.settings_toml.specs.declared.wanted.Kind.TheVariants as kind
 use Rattle.settings_toml.specs.declared.wanted.Wanted.{Wanted}
-use Rattle.settings_toml.specs.declared.wanted.Wanted.TheVariants.{Whole, WholeOrZero, Name, Label, Endpoints, Legs, Other}
+use Rattle.settings_toml.specs.declared.wanted.Wanted.TheVariants.{Whole, WholeOrZero, Source, Name, Label, Endpoints, Legs, Other}
 
 -- a key, and what it takes
 pub record KeyRow : Type 0 where
@@ -70,7 +70,7 @@ endpoint_rows =
     ∷ key_row (codes "receive_only") (Other kind.ReceiveOnly)
     ∷ key_row (codes "rtcp_address") (Other kind.RtcpAddress)
     ∷ key_row (codes "rtpmap") (Other kind.Encodings)
-    ∷ key_row (codes "ssrc") (Whole 0 (SSRCS - 1))
+    ∷ key_row (codes "ssrc") (Source (SSRCS - 1))
     ∷ []
 
 abbrev pub leg_rows : List KeyRow
@@ -128,6 +128,9 @@ wanted_words (Whole least most) =
     codes "whole number from " ++ (decimal least ++ (codes " to " ++ decimal most))
 wanted_words (WholeOrZero least most) =
     codes "whole number from " ++ (decimal least ++ (codes " to " ++ (decimal most ++ codes ", nor 0")))
+wanted_words (Source most) =
+    codes "whole number from 0 to "
+    ++ (decimal most ++ codes ", nor \"learn\" beside an address of its own")
 wanted_words (Name most) =
     codes "text of 1 to " ++ (decimal most ++ codes " ASCII characters, as \"sfu@192.0.2.1\"")
 wanted_words (Label most) =

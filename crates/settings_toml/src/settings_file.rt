@@ -3,10 +3,11 @@
 ghost use Rattle.std.specs.Prelude.{◌≡◌, ◌⊎◌, IfOk, Some, codes, map, option_map, string_bytes};
 ghost use Rattle.toml.specs.Data.{get_member};
 ghost use Rattle.toml.specs.View.{table_view, view};
-ghost use Rattle.settings_toml.specs.SettingsFile.{AreExtrasOf, ArePartsOf, bool_in, bounds_in, client_in, client_says, cname_in, integer_in, items_in, leg_in, ssrc_in, text_bytes, tick_in, text_in, texts_in, texts_of};
+ghost use Rattle.settings_toml.specs.SettingsFile.{AreExtrasOf, ArePartsOf, bool_in, bounds_in, client_in, client_says, cname_in, integer_in, items_in, leg_in, sources_from, text_bytes, tick_in, text_in, text_of, texts_in, texts_of};
 ghost use Rattle.settings_toml.specs.SettingsFaults.{TableGives, TextGives, earlier, fault_spot, problem_spot, spot_of};
 
 use crate::bound_keys::{BoundKeys, bounds_at};
+use crate::seat_names::{learns_ssrc, source_in};
 use crate::settings_keys::{Place, first_misfit, items_at, items_in};
 use crate::tick_key::tick_at;
 use crate::values::{bool_at, bool_in, integer_at, integer_in, text_in, text_of, value_at};
@@ -48,6 +49,8 @@ pub struct ClientText {
     pub learn_from: Option<String>,
     /// Where its RTCP comes from and goes to, as the file spells it; the same as all else if the file says nothing.
     pub rtcp_address: Option<String>,
+    /// Whether the SSRC under which it sends is learned.
+    pub learns_ssrc: bool,
     /// Whether it only listens, and is present whatever it says.
     pub receive_only: bool,
     /// What it publishes, for session descriptions: each payload type with its encoding.
@@ -196,6 +199,7 @@ pub fn problem_at(alloc: Global, place: Place<'_>) -> SettingsProblem
 pub(crate) fn parts_of(alloc: Global, table: &Table) -> Result<Parts, AllocError>
     ensures { IfOk result (ArePartsOf (table_view table.now)) }
 {
+    let unit_ssrc = integer_at(table, "unit_ssrc");
     Ok(Parts {
         workers: integer_at(table, "workers"),
         ring: integer_at(table, "ring"),
@@ -204,9 +208,9 @@ pub(crate) fn parts_of(alloc: Global, table: &Table) -> Result<Parts, AllocError
         report_ms: integer_at(table, "report_ms"),
         request_ms: integer_at(table, "request_ms"),
         pli_gap_ms: integer_at(table, "pli_gap_ms"),
-        unit_ssrc: integer_at(table, "unit_ssrc"),
+        unit_ssrc,
         cname: text_in(alloc, value_at(table, "cname"))?,
-        endpoints: sources_of(alloc, items_at(table, "endpoint"))?,
+        endpoints: sources_of(alloc, unit_ssrc, items_at(table, "endpoint"))?,
         legs: legs_of(alloc, items_at(table, "leg"))?,
     })
 }
@@ -222,13 +226,17 @@ pub(crate) fn extras_of(alloc: Global, table: &Table) -> Result<Extras, AllocErr
     })
 }
 
-/// The source of each endpoint.
-fn sources_of(alloc: Global, endpoints: &[Value]) -> Result<Vec<Option<i64>>, AllocError>
-    ensures { IfOk result (λ v. v.items ≡ map (λ x. ssrc_in (view x)) endpoints.now) }
+/// The source of each endpoint of a unit with this source.
+fn sources_of(
+    alloc: Global,
+    unit: Option<i64>,
+    endpoints: &[Value],
+) -> Result<Vec<Option<i64>>, AllocError>
+    ensures { IfOk result (λ v. v.items ≡ sources_from unit 0 (map view endpoints.now)) }
 {
     let mut sources = Vec::new(alloc);
-    for endpoint in endpoints {
-        sources.push(integer_in(endpoint.get("ssrc")))?;
+    for (number, endpoint) in endpoints.iter().enumerate() {
+        sources.push(source_in(unit, number, endpoint))?;
     }
     Ok(sources)
 }
@@ -291,6 +299,7 @@ fn client_in(alloc: Global, endpoint: &Value) -> Result<ClientText, AllocError>
         address: text_in(alloc, endpoint.get("address"))?,
         learn_from: text_in(alloc, endpoint.get("learn_from"))?,
         rtcp_address: text_in(alloc, endpoint.get("rtcp_address"))?,
+        learns_ssrc: learns_ssrc(endpoint),
         receive_only: bool_in(endpoint.get("receive_only")).unwrap_or(false),
         rtpmap: texts_in(alloc, endpoint.get("rtpmap"))?,
         fmtp: texts_in(alloc, endpoint.get("fmtp"))?,

@@ -61,6 +61,8 @@ pub(crate) enum Wanted {
     Whole(u64, u64),
     /// 0, or a whole number from the first to the second.
     WholeOrZero(u64, u64),
+    /// A source up to this one, or one that is learned.
+    Source(u64),
     /// A name of one to so many characters.
     Name(u64),
     /// One of so many characters that labels, lines and pages show as they are.
@@ -157,7 +159,7 @@ fn wanted_endpoint(key: &str) -> Option<Wanted>
         "receive_only" => Some(Wanted::Other(Kind::ReceiveOnly)),
         "rtcp_address" => Some(Wanted::Other(Kind::RtcpAddress)),
         "rtpmap" => Some(Wanted::Other(Kind::Encodings)),
-        "ssrc" => Some(Wanted::Whole(0, 4_294_967_295)),
+        "ssrc" => Some(Wanted::Source(4_294_967_295)),
         _ => None,
     }
 }
@@ -184,6 +186,12 @@ pub(crate) fn wanted_text(alloc: Global, wanted: Wanted) -> Result<String, Alloc
         Wanted::WholeOrZero(least, most) => {
             format!(in alloc; "whole number from {least} to {most}, nor 0")
         }
+        Wanted::Source(most) => counted(
+            alloc,
+            "whole number from 0 to ",
+            most,
+            ", nor \"learn\" beside an address of its own",
+        ),
         Wanted::Name(most) => counted(
             alloc,
             "text of 1 to ",

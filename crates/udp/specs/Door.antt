@@ -11,10 +11,13 @@ use Rattle.udp.specs.declared.hearing.Anew.{Anew}
 use Rattle.udp.specs.declared.hearing.Hearing.{Hearing}
 use Rattle.udp.specs.declared.hearing.Leftover.{Leftover}
 use Rattle.udp.specs.declared.who.Who.{Who}
-use Rattle.udp.specs.Hearing.{AsksAgain, Bearings, HearsDatagram, HearsFar, HearsRest, TakesIn, anew_after}
+use Rattle.udp.specs.Hearing.{AsksAgain, Bearings, HearsDatagram, HearsFar, HearsRest, TakesIn, anew_after, has_left, packets_in}
 use Rattle.udp.specs.Kept.{IsSpokenBy, is_there, sent_by}
 use Rattle.udp.specs.Who.{address_book_of}
 use Rattle.addresses.specs.Listeners.{listeners_after, report_due}
+use Rattle.addresses.specs.Seating.{Hears, SeatBook, seats_left}
+use Rattle.seats.specs.declared.seat.Whose.{Whose}
+use Rattle.seats.specs.declared.seat.Whose.TheVariants.{Clients, Ours, Others}
 use Rattle.desk_calls.specs.DeskCalls.{source_of}
 use Rattle.policy.specs.RateRequests.{is_due}
 use Rattle.ports.specs.declared.feed.Received.{Received}
@@ -71,6 +74,33 @@ pub record HearsCame (bearings : Who → Bearings) (view : RoomView) (filled k :
   pub size : ℕ
   pub heard : IfLetIn admitted (λ a. HearsDatagram (bearings filled.who) view filled k moment
       (record { address = address; from = 0; to = size }) a)
+
+-- Who said goodbye in what was let in may come under another name.
+pub record LetsGo (known later : SeatBook) (k : Hearing) (admitted : Admitted) : Type 0 where
+  pub goodbye : admitted ≡ Taking → has_left k.kept ≡ true → later ≡ seats_left known k.kept.sent.endpoint
+  pub stays : (admitted ≡ Taking → has_left k.kept ≡ true → ⊥) → later ≡ known
+
+-- What is heard once names are exchanged in what came: of a client's datagram it, and then who said goodbye in it is let go; of nobody's nothing.
+abbrev pub IsHeardIf : Whose → (Who → Bearings) → RoomView → Hearing → Hearing → SeatBook → SeatBook → ℕ → Leftover → Admitted
+    → Type 0
+IsHeardIf Clients bearings view h k known later moment whole admitted =
+    HearsDatagram (bearings h.who) view h k moment whole admitted × LetsGo known later k admitted
+IsHeardIf Ours bearings view h k known later moment whole admitted =
+    (admitted ≡ Nothing) × (k ≡ h) × (later ≡ known)
+IsHeardIf Others bearings view h k known later moment whole admitted =
+    (admitted ≡ Nothing) × (k ≡ h) × (later ≡ known)
+
+-- A datagram came, all of these bytes, at this moment: the names of its client are exchanged in it, if it came from the address of a seat whose client's
+-- names are learned; and what is heard is what it says then.
+pub record HearsExchanged (same : SocketAddr → SocketAddr → Bool) (bearings : Who → Bearings) (view : RoomView) (h k : Hearing)
+    (known later : SeatBook) (moment : ℕ) (whole : Leftover) (admitted : Admitted) : Type 0 where
+  pub between : Hearing
+  pub seats : SeatBook
+  pub whose : Whose
+  pub exchanges : Hears same known seats whole.address (packets_in h.kept whole) (packets_in between.kept whole) moment whose
+  pub who : between.who ≡ h.who
+  pub policies : between.policies ≡ h.policies
+  pub heard : IsHeardIf whose bearings view between k seats later moment whole admitted
 
 -- nothing is let in
 abbrev pub IsSilence : Result Admitted ReceiveFault → Type 0

@@ -1,5 +1,5 @@
 -- What is heard of a datagram that came, packet by packet, and what is left.
-use Rattle.std.specs.Prelude.{◌≡◌, ◌+◌, ◌∷◌, ℕ, nat_lt, Bool, true, false, List, [], slice_get, slice_range, Option, None, Some, if◌then◌else◌}
+use Rattle.std.specs.Prelude.{◌≡◌, ◌+◌, ◌&&◌, ◌∷◌, ℕ, nat_lt, Bool, true, false, not, List, [], slice_get, slice_range, Option, None, Some, if◌then◌else◌}
 use Rattle.std.specs.declared.net.socket_addr.SocketAddr.{SocketAddr}
 use Rattle.tmmbr_tuple.specs.declared.ssrc.Ssrc.{Ssrc}
 use Rattle.datagram.specs.Reads.{IsReadUpTo, IsSaidIn}
@@ -57,6 +57,10 @@ is_goodbye (Media packet) = false
 is_goodbye Goodbye = true
 is_goodbye (Control c) = false
 is_goodbye (Refused refusal) = false
+
+-- who sent this says goodbye itself: it isn't said in its name
+abbrev pub has_left : Kept → Bool
+has_left k = is_goodbye k.reading.what && not k.is_made
 
 -- By these bytes their endpoint was heard at this moment, and said BYE if they say it (RFC 3550, section 6.6).
 pub record IsNoted (own endpoint moment : ℕ) (bytes : List ℕ) (known later : AddressBook) : Type 0 where

@@ -1,7 +1,10 @@
--- What a receive that gave nothing was, and what a clock tells.
-use Rattle.std.specs.Prelude.{◌≡◌, ◌==◌, ℕ, ◌+◌, ◌-◌, Bool, true, false, Option, None, Some, max, min, if◌then◌else◌}
+-- What a receive that gave nothing was, what a client is told of what is sent to it, and what a clock tells.
+use Rattle.std.specs.Prelude.{◌≡◌, ◌==◌, ℕ, ◌+◌, ◌-◌, Bool, true, false, List, Option, None, Some, max, min, if◌then◌else◌}
 use Rattle.std.specs.declared.io.ErrorKind.{ErrorKind}
 use Rattle.std.specs.declared.io.ErrorKind.TheVariants.{Interrupted, TimedOut, WouldBlock}
+use Rattle.addresses.specs.declared.directory.Naming.{Naming}
+use Rattle.addresses.specs.declared.directory.Naming.TheVariants.{Given, Own, Changing}
+use Rattle.seats.specs.Exchange.{IsToldAs}
 
 -- nothing came in time, or a signal came meanwhile: no fault
 abbrev pub is_silence : ErrorKind → Bool
@@ -9,6 +12,12 @@ is_silence WouldBlock = true
 is_silence TimedOut = true
 is_silence Interrupted = true
 is_silence kind = false
+
+-- A client is sent this of what was given out for it: that, or the same under its own names. Nothing is sent while these are being changed.
+abbrev pub IsToldUnder : Naming → List ℕ → List ℕ → Type 0
+IsToldUnder Given before after = after ≡ before
+IsToldUnder (Own names) before after = IsToldAs names before after
+IsToldUnder Changing before after = ⊥
 
 -- ---- what a clock tells
 

@@ -4,9 +4,10 @@ ghost use Rattle.std.specs.Prelude.{◌≡◌, ◌⊎◌, ◌≤◌, ◌<◌, �
 ghost use Rattle.entrance.specs.Entrance.{IfTaken};
 ghost use Rattle.desk_calls.specs.DeskCalls.{source_of};
 ghost use Rattle.addresses.specs.Listeners.{listeners_after, report_due};
+ghost use Rattle.addresses.specs.Seating.{first_seats, seats_of};
 ghost use Rattle.policy.specs.FloodLimiter.{empty_bucket};
 ghost use Rattle.policy.specs.RateRequests.{BeginsBy};
-ghost use Rattle.udp.specs.Door.{HearsAnew, HearsBefore, HearsElse, HearsLeft, HearsMore, IfLetIn, LetsWish, Waits, is_wish, wish_in};
+ghost use Rattle.udp.specs.Door.{HearsAnew, HearsBefore, HearsElse, HearsExchanged, HearsLeft, HearsMore, IfLetIn, LetsGo, LetsWish, Waits, is_wish, wish_in};
 ghost use Rattle.udp.specs.Kept.{IsSpokenBy, MayBeTaken, sent_by};
 ghost use Rattle.udp.specs.Policies.{most_by};
 ghost use Rattle.udp.specs.Who.{address_book_of, setup_of};
@@ -18,13 +19,14 @@ use crate::hearing::Hearing;
 use crate::inbox::{Inbox, is_silence};
 use crate::scribe::Scribe;
 use crate::socket::Sockets;
-use addresses::{Client, Directory, Listening, SourceAddress};
+use addresses::{Client, Directory, Listening, Seating, SourceAddress};
 use datagram::Taking;
 use entrance::{Admitted, Came, Entrance};
 use members::RoomView;
 use operations::RunStatus;
 use policy::{AnnouncedSets, Rules};
 use ports::{ReceiveFault, Received};
+use seats::Whose;
 use settings::Settings;
 use stats::Traffic;
 use std::alloc::{AllocError, Global};
@@ -49,6 +51,8 @@ pub struct Door<'a, R: time::Clock> {
     inbox: Inbox<'a>,
     clock: RunClock<'a, R>,
     hearing: Hearing<'a>,
+    /// Under which names the clients of seats are known.
+    seating: Seating<'a>,
     run_status: &'a RunStatus,
     traffic: &'a Traffic,
     scribe: Scribe,
@@ -76,8 +80,10 @@ impl<'a, R: time::Clock> Door<'a, R> {
             (λ d. BeginsBy rules settings.now d.hearing.policies.requests) }
         ensures most { IfOk result (λ d. d.hearing.policies.most ≡ most_by rules.entry_limit) }
         ensures nothing { IfOk result (λ d. (d.hearing.rest ≡ None) × (d.hearing.anew ≡ None)) }
+        ensures seats { IfOk result (λ d. seats_of d.seating ≡ first_seats settings.now clients.now) }
     {
         let (run_status, traffic) = (outlook.run_status, outlook.traffic);
+        let seating = Seating::new(alloc, settings, clients, outlook.directory)?;
         Ok(Door {
             inbox: Inbox::new(sockets),
             clock: RunClock::new(
@@ -87,6 +93,7 @@ impl<'a, R: time::Clock> Door<'a, R> {
                 &run_status.stalled,
             ),
             hearing: Hearing::new(alloc, listening, settings, clients, rules, outlook)?,
+            seating,
             run_status,
             traffic,
             scribe: Scribe::new(alloc),
@@ -294,11 +301,63 @@ impl<'a, R: time::Clock> Door<'a, R> {
         let came = self.hearing.receive(&mut self.inbox, last);
         let moment = self.moment();
         let admitted = match came {
-            Ok((size, address)) => Ok(self.hearing.hear_datagram(view, moment, address, size)?),
+            Ok((size, address)) => Ok(self.hear_came(view, moment, address, size)?),
             Err(error) if is_silence(error.kind()) => Ok(Admitted::Nothing),
             Err(_) => Err(ReceiveFault),
         };
         Ok(Came { moment, admitted })
+    }
+
+    /// A datagram of so many bytes came from this address, at this moment. It is heard as of the seat of its client, if that has one; else as it is.
+    /// What is nobody's is counted.
+    fn hear_came(
+        &mut self,
+        view: RoomView<'_>,
+        moment: u64,
+        address: SocketAddr,
+        size: usize,
+    ) -> Result<Admitted, AllocError>
+        requires { size ≤ length self.old.hearing.kept.buffer.items }
+        ensures taken { IfOk result
+            (λ admitted. IfTaken (Ok admitted) (MayBeTaken view.entry.links.now self.new.hearing.kept)) }
+        ensures moment { IfOk result (λ admitted. IfTaken (Ok admitted)
+            (self.new.hearing.kept.sent.moment ≡ moment)) }
+        ensures hears { IfOk result (λ admitted. HearsExchanged ⟦<SocketAddr as PartialEq>⟧.eq
+            (λ who. record {
+              setup = setup_of ⟦<u32 as PartialEq>⟧.eq ⟦<SocketAddr as PartialEq>⟧.eq
+                  ⟦<IpAddr as PartialEq>⟧.eq who;
+              same_origin = ⟦<SourceAddress as PartialEq>⟧.eq;
+              source = source_of view.entry.links.now;
+            }) view.entry self.old.hearing self.new.hearing (seats_of self.old.seating)
+            (seats_of self.new.seating) moment
+            (record { address = address; from = 0; to = size }) admitted) }
+        ensures clock { self.new.clock ≡ self.old.clock }
+    {
+        let whose = self
+            .hearing
+            .exchange(&mut self.seating, address, size, moment);
+        match whose {
+            Whose::Clients => {
+                let admitted = self.hearing.hear_datagram(view, moment, address, size)?;
+                self.let_go(admitted);
+                Ok(admitted)
+            }
+            Whose::Ours | Whose::Others => {
+                self.hearing.count_stranger(address, 0, size);
+                Ok(Admitted::Nothing)
+            }
+        }
+    }
+
+    /// Who said goodbye in what was let in may come under another name.
+    fn let_go(&mut self, admitted: Admitted)
+        ensures seats { LetsGo (seats_of self.old.seating) (seats_of self.new.seating)
+            self.old.hearing admitted }
+        ensures stays { (self.new.hearing ≡ self.old.hearing) × (self.new.clock ≡ self.old.clock) }
+    {
+        if matches!(admitted, Admitted::Taking) && self.hearing.kept.has_left() {
+            self.seating.left(self.hearing.kept.sent.endpoint);
+        }
     }
 }
 

@@ -5,6 +5,7 @@ ghost use Rattle.entrance.specs.Entrance.{IfTaken};
 ghost use Rattle.desk_calls.specs.DeskCalls.{source_of};
 ghost use Rattle.policy.specs.FloodLimiter.{buckets_with, empty_bucket, is_within};
 ghost use Rattle.addresses.specs.Listeners.{listeners_after, report_due};
+ghost use Rattle.addresses.specs.Seating.{Hears, seats_of};
 ghost use Rattle.datagram.specs.Naming.{source_named};
 ghost use Rattle.addresses.specs.SenderTable.{front_length, sender_of};
 ghost use Rattle.udp.specs.Hearing.{HearsDatagram, HearsFar, HearsRead, HearsRest, IsNoted, IsPresentHeld, LetsIn, LooksAt, TakesIn, anew_after, packets_in, rest_behind, stand_of};
@@ -18,7 +19,7 @@ use crate::inbox::Inbox;
 use crate::kept::Kept;
 use crate::policies::Policies;
 use crate::who::Who;
-use addresses::{Client, FirstPacket, Listening, SourceAddress};
+use addresses::{Client, FirstPacket, Listening, Seating, SourceAddress};
 use datagram::{Sent, source_named};
 use entrance::Admitted;
 use members::RoomView;
@@ -26,6 +27,7 @@ use operations::RunStatus;
 use policy::{Judged, Rules};
 use ports::MAX_DATAGRAM;
 use rtcp_compound::is_rtcp;
+use seats::Whose;
 use settings::Settings;
 use stats::Traffic;
 use std::alloc::{AllocError, Global};
@@ -388,7 +390,7 @@ impl<'a> Hearing<'a> {
     }
 
     /// Counts what came from nobody, at this address, and stands there.
-    fn count_stranger(&self, address: SocketAddr, from: usize, to: usize)
+    pub(crate) fn count_stranger(&self, address: SocketAddr, from: usize, to: usize)
         requires { (from ≤ to) × (to ≤ length self.now.kept.buffer.items) }
     {
         let packets = &self.kept.buffer.as_slice()[from..to];
@@ -520,6 +522,26 @@ impl<'a> Hearing<'a> {
     {
         self.kept.say_present(view.links, moment, endpoint);
         self.policies.hold(&mut self.kept, view);
+    }
+
+    /// A datagram of so many bytes came from this address at this moment: whose it is; if it is that of a seat's client, what is heard of it is
+    /// written over it.
+    pub(crate) fn exchange(
+        &mut self,
+        seating: &mut Seating<'_>,
+        address: SocketAddr,
+        size: usize,
+        moment: u64,
+    ) -> Whose
+        requires { size ≤ length self.old.kept.buffer.items }
+        ensures hears { Hears ⟦<SocketAddr as PartialEq>⟧.eq (seats_of seating.old) (seats_of seating.new)
+            address (slice_range self.old.kept.buffer.items 0 size)
+            (slice_range self.new.kept.buffer.items 0 size) moment result }
+        ensures length { length self.new.kept.buffer.items ≡ length self.old.kept.buffer.items }
+        ensures stays { (self.new.rest ≡ self.old.rest) × (self.new.anew ≡ self.old.anew)
+            × (self.new.who ≡ self.old.who) × (self.new.policies ≡ self.old.policies) }
+    {
+        self.kept.exchange(seating, address, size, moment)
     }
 
     /// Receives the next datagram of an inbox: how long it is, and where it came from. The last moment that was told was this one.

@@ -3,11 +3,13 @@
 ghost use Rattle.std.specs.Prelude.{◌≡◌, ◌≤◌, length};
 
 use crate::inbox::Inbox;
+use addresses::Seating;
 use datagram::{Ask, Control, Notes, Reading, Sent, Taking, What, is_sayable, read_noting};
 use entrance::own_source;
 use members::RoomView;
 use policy::{Again, IngressFilter, Judged, RateRequests};
 use ports::MAX_DATAGRAM;
+use seats::Whose;
 use settings::Links;
 use std::alloc::{AllocError, Global};
 use std::io;
@@ -40,6 +42,7 @@ pub(crate) struct Kept {
 
 impl Kept {
     ghost use Rattle.std.specs.Prelude.{◌≡◌, ◌≤◌, ◌+◌, ◌∷◌, [], true, false, IfNone, IfOk, IfSome, OnOk, length, slice_range};
+    ghost use Rattle.addresses.specs.Seating.{Hears, seats_of};
     ghost use Rattle.desk_calls.specs.DeskCalls.{source_of};
     ghost use Rattle.datagram.specs.Notes.{AreNoted, HasSameRoom};
     ghost use Rattle.datagram.specs.Reads.{IsReadUpTo, admission_of};
@@ -48,7 +51,7 @@ impl Kept {
     ghost use Rattle.settings.specs.Links.{LinkTable};
     ghost use Rattle.policy.specs.IngressFilter.{IsAsItWas, Judges, LooksForNothing};
     ghost use Rattle.udp.specs.Kept.{IsOfSame, IsReadFrom, IsSpokenBy, MayBeTaken, SaysGoodbye, admission_in, bytes_of, datagram_in, is_there, sent_by, with_behind};
-    ghost use Rattle.udp.specs.Hearing.{is_goodbye};
+    ghost use Rattle.udp.specs.Hearing.{has_left, is_goodbye};
     ghost use Rattle.udp.specs.Noted.{HasRoom};
     ghost use Rattle.udp.specs.Policies.{IsHeld};
 
@@ -147,6 +150,31 @@ impl Kept {
             &mut self.reading,
             self.notes.notice.as_slice(),
         );
+    }
+
+    /// Whether its endpoint sends a BYE itself.
+    pub(crate) fn has_left(&self) -> bool
+        ensures { result ≡ has_left self.now }
+    {
+        self.is_goodbye() && !self.is_made
+    }
+
+    /// A datagram of so many bytes came from this address at this moment: whose it is; if it is that of a seat's client, what is heard of it is
+    /// written over it.
+    pub(crate) fn exchange(
+        &mut self,
+        seating: &mut Seating<'_>,
+        address: SocketAddr,
+        size: usize,
+        moment: u64,
+    ) -> Whose
+        requires { size ≤ length self.old.buffer.items }
+        ensures hears { Hears ⟦<SocketAddr as PartialEq>⟧.eq (seats_of seating.old) (seats_of seating.new)
+            address (slice_range self.old.buffer.items 0 size)
+            (slice_range self.new.buffer.items 0 size) moment result }
+        ensures length { length self.new.buffer.items ≡ length self.old.buffer.items }
+    {
+        seating.hear(address, &mut self.buffer.as_mut_slice()[0..size], moment)
     }
 
     /// Receives the next datagram of an inbox: how long it is, and where it came from. The last moment that was told was this one.

@@ -1,11 +1,14 @@
 //! The sockets of a unit, and what is sent by them.
 
-ghost use Rattle.std.specs.Prelude.{◌≡◌, None, vec_len, is_some, map, replicate, IfOk};
+ghost use Rattle.std.specs.Prelude.{◌≡◌, None, true, vec_len, is_some, map, replicate, IfOk, IfSome, OnOk};
+ghost use Rattle.seats.specs.Exchange.{IsToldAs};
+ghost use Rattle.udp.specs.Sockets.{IsToldUnder};
 
-use addresses::{Directory, Kind, Listening};
+use addresses::{Directory, Kind, Listening, Naming};
 use events::Refusal;
 use ports::{SendFault, Sink};
 use rtcp_compound::is_rtcp;
+use seats::{Names, told_as};
 use stats::Traffic;
 use std::alloc::{AllocError, Global};
 use std::io;
@@ -77,6 +80,8 @@ pub struct SocketSink<'a> {
     /// Where the client of each endpoint is.
     directory: &'a Directory,
     traffic: &'a Traffic,
+    /// What a client is told under its own name.
+    draft: Vec<u8>,
     /// How many sends failed.
     failures: u64,
 }
@@ -84,24 +89,79 @@ pub struct SocketSink<'a> {
 impl<'a> SocketSink<'a> {
     /// Sends by these sockets to the endpoints' clients.
     pub fn new(
+        alloc: Global,
         sockets: Sockets<'a>,
         directory: &'a Directory,
         traffic: &'a Traffic,
     ) -> SocketSink<'a>
-        ensures { result ≡ record {
-          sockets = sockets.entry;
-          directory = directory.entry;
-          traffic = traffic.entry;
-          failures = 0;
-        } }
+        ensures ends { (result.sockets ≡ sockets.entry) × (result.directory ≡ directory.entry)
+            × (result.traffic ≡ traffic.entry) }
+        ensures nothing { result.failures ≡ 0 }
     {
         SocketSink {
             sockets,
             directory,
             traffic,
+            draft: Vec::new(alloc),
             failures: 0,
         }
     }
+
+    /// Sends these bytes to the endpoint's client, and says whether the system took them. RTCP goes from its socket to its address, under the client's
+    /// own names if these are learned; anything else from the other one, as it is (RFC 5761, section 4).
+    fn is_sent(&mut self, endpoint: u16, bytes: &[u8]) -> bool
+        ensures { self.new.failures ≡ self.old.failures }
+    {
+        let directory = self.directory;
+        if !is_rtcp(bytes) {
+            return is_given(directory, self.sockets.media, endpoint, Kind::Rtp, bytes);
+        }
+        let socket = self.sockets.rtcp.unwrap_or(self.sockets.media);
+        match told(directory.naming(endpoint), bytes, &mut self.draft) {
+            Some(told) => is_given(directory, socket, endpoint, Kind::Rtcp, told),
+            None => false,
+        }
+    }
+}
+
+/// Sends these bytes from this socket to where those of this kind go, and says whether the system took them.
+fn is_given(
+    directory: &Directory,
+    socket: &UdpSocket,
+    endpoint: u16,
+    kind: Kind,
+    bytes: &[u8],
+) -> bool {
+    match directory.address(endpoint, kind) {
+        Some(address) => socket.send_to(bytes, address).is_ok(),
+        None => false,
+    }
+}
+
+/// What a client that is told so is sent of this datagram: that, or what is written into the draft. Nothing while its names are being changed, and for
+/// want of memory.
+fn told<'d>(naming: Naming, bytes: &'d [u8], draft: &'d mut Vec<u8>) -> Option<&'d [u8]>
+    ensures told { IfSome result (λ told. IsToldUnder naming bytes.now told.now) }
+    ensures given { naming ≡ Naming.Given → is_some result ≡ true }
+{
+    match naming {
+        Naming::Given => Some(bytes),
+        Naming::Own(names) => match tell(names, bytes, draft) {
+            Ok(()) => Some(draft.as_slice()),
+            Err(_) => None,
+        },
+        Naming::Changing => None,
+    }
+}
+
+/// Writes a datagram as a client with these names is told it. Refused for want of memory alone.
+fn tell(names: Names, bytes: &[u8], draft: &mut Vec<u8>) -> Result<(), AllocError>
+    ensures { OnOk result (IsToldAs names bytes.now draft.new.items) }
+{
+    draft.clear();
+    draft.extend_from_slice(bytes)?;
+    told_as(names, draft.as_mut_slice());
+    Ok(())
 }
 
 impl Sink for SocketSink<'_> {
@@ -110,7 +170,7 @@ impl Sink for SocketSink<'_> {
     ghost shown = { λ s. record { handed = None; failures = s.failures } };
 
     fn send(&mut self, endpoint: u16, bytes: &[u8]) -> Result<(), SendFault> {
-        if is_sent(self.sockets, self.directory, endpoint, bytes) {
+        if self.is_sent(endpoint, bytes) {
             self.traffic.sent(endpoint, bytes);
             return Ok(());
         }
@@ -135,20 +195,6 @@ impl Sink for SocketSink<'_> {
     }
 }
 
-/// Sends these bytes to the endpoint's client, and says whether the system took them. RTCP goes from its socket to its address, anything else
-/// from the other one (RFC 5761, section 4).
-fn is_sent(sockets: Sockets<'_>, directory: &Directory, endpoint: u16, bytes: &[u8]) -> bool {
-    let (socket, kind) = if is_rtcp(bytes) {
-        (sockets.rtcp.unwrap_or(sockets.media), Kind::Rtcp)
-    } else {
-        (sockets.media, Kind::Rtp)
-    };
-    match directory.address(endpoint, kind) {
-        Some(address) => socket.send_to(bytes, address).is_ok(),
-        None => false,
-    }
-}
-
 /// So many sinks on the same sockets.
 pub fn socket_sinks<'a>(
     alloc: Global,
@@ -163,7 +209,7 @@ pub fn socket_sinks<'a>(
 {
     let mut sinks = Vec::with_capacity(alloc, count)?;
     for _sink in 0..count {
-        sinks.push(SocketSink::new(sockets, directory, traffic))?;
+        sinks.push(SocketSink::new(alloc, sockets, directory, traffic))?;
     }
     Ok(sinks)
 }

@@ -3,6 +3,7 @@
 use super::{OpenQuestion, Steering};
 use crate::metrics_text::{Seen, metrics_text};
 use crate::report_answers::{refusals_text, reports_text};
+use addresses::Naming;
 use control_protocol::{EndpointLine, Screened, Unheard, counts_text, present_line, screened_text};
 use desk::Desk;
 use diagnosis::reason_lines;
@@ -49,23 +50,31 @@ impl Steering {
         self.answer();
     }
 
-    /// Whether this endpoint is present, at this moment.
+    /// Whether this endpoint is present, at this moment, and under which names its client is told of itself.
     pub(crate) fn show_endpoint(
         &mut self,
         endpoint: u16,
         is_present: bool,
+        naming: Naming,
         traffic: &Traffic,
         moment: u64,
     ) {
         if self.asked == OpenQuestion::Look(Look::Presence) {
-            self.push_endpoint(endpoint, is_present, traffic, moment);
+            self.push_endpoint(endpoint, is_present, naming, traffic, moment);
         } else {
             let _ = self.present.push(is_present);
         }
     }
 
     /// The line of an endpoint.
-    fn push_endpoint(&mut self, endpoint: u16, is_present: bool, traffic: &Traffic, moment: u64) {
+    fn push_endpoint(
+        &mut self,
+        endpoint: u16,
+        is_present: bool,
+        naming: Naming,
+        traffic: &Traffic,
+        moment: u64,
+    ) {
         if let Some(listed) = self.endpoints.get(usize::from(endpoint)) {
             let (heard_ago_ms, refused) = heard_of(traffic, endpoint, moment);
             let line = present_line(
@@ -78,6 +87,8 @@ impl Steering {
                     heard_ago_ms,
                     refused,
                     only_listens: listed.only_listens,
+                    sends: naming.sends(),
+                    asks: naming.asks(),
                     other_source: self.diagnosing.other_source(endpoint),
                     name: self.unit.name(endpoint),
                 },

@@ -1,7 +1,8 @@
-use Rattle.std.proofs.Common.{◌≡◌, map, take}
+use Rattle.std.proofs.Common.{◌≡◌, ◌++◌, drop, map}
 use Rattle.toml.specs.View.{view}
-use Rattle.settings_toml.specs.SettingsFile.{ssrc_in}
+use Rattle.settings_toml.specs.SettingsFile.{sources_from}
 use Rattle.settings_toml.proofs.settings_file.sources_of.Given as goal
 
-abbrev pub invariant-loop-endpoint : goal.invariant-loop-endpoint
-invariant-loop-endpoint l = l.sources.items ≡ map (λ x. ssrc_in (view x)) (take l.endpoint-index l.endpoints)
+abbrev pub invariant-loop-number : goal.invariant-loop-number
+invariant-loop-number l =
+    l.sources.items ++ sources_from l.unit l.number (map view (drop l.number l.endpoints)) ≡ sources_from l.unit 0 (map view l.endpoints)
