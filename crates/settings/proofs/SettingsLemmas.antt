@@ -13,11 +13,11 @@ use Rattle.tmmbr_tuple.specs.declared.ssrc.Ssrc.{Ssrc}
 use Rattle.settings.specs.declared.settings.LegSettings.{LegSettings}
 use Rattle.settings.specs.declared.parts.Parts.{Parts}
 use Rattle.settings.specs.declared.fault.SettingsFault.{SettingsFault}
-use Rattle.settings.specs.Settings.{Check, check, checks, top_checks, endpoint_checks, leg_checks, first_fault, are_distinct, sources, number_or_zero, number_within, is_cname, is_cname_or_none, name_of, own_name, said_name, said_names, Additions, ssrc_of, leg_of, number_below, or_zero, is_same, has_pair, is_publisher, AreNumbersOf, IsInRange, IsLegAmong, HasOtherEnds}
+use Rattle.settings.specs.Settings.{Check, check, checks, top_checks, endpoint_checks, leg_checks, first_fault, are_distinct, sources, number_or_zero, number_within, is_cname, is_cname_or_none, name_of, own_name, said_name, said_names, Additions, ssrc_of, leg_of, number_below, or_one, or_zero, is_same, has_pair, is_publisher, AreNumbersOf, IsInRange, IsLegAmong, HasOtherEnds}
 use Rattle.settings.specs.declared.checks.Numbers.{Numbers}
 use Rattle.settings.specs.declared.fault.SettingsFault.TheVariants.{SameSsrc}
 use Rattle.rtcp_compound.specs.declared.writer.TheConstants.{CNAME_LIMIT}
-use Rattle.settings.specs.declared.limits.TheConstants.{SSRCS, MAX_WORKERS, MAX_RING, LEAST_HISTORY, MAX_HISTORY, MAX_PERIOD_MS, MAX_ENDPOINTS, MAX_LEGS}
+use Rattle.settings.specs.declared.limits.TheConstants.{SSRCS, MAX_WORKERS, MAX_RING, LEAST_HISTORY, MAX_HISTORY, MAX_PERIOD_MS, MAX_REPORT_SLOTS, MAX_ENDPOINTS, MAX_LEGS}
 use Rattle.settings.specs.declared.parts.LegParts.{LegParts}
 use Rattle.std.specs.Prelude.{ℤ, pos, negsuc, nat_le, nat_lt, ◌≢◌, is_some, take, unwrap_or}
 
@@ -132,39 +132,39 @@ legs_part p = flat_map (leg_checks p) (enumerate_from 0 p.legs.items)
 abbrev sources_part : Parts → List Check
 sources_part p = check (are_distinct (sources p)) SameSsrc ∷ []
 
-checks-is : (p : Parts) (x : Additions) → first_fault (checks p x) ≡ first_fault (top_checks p ++ (endpoints_part p x ++ (legs_part p ++ sources_part p)))
+checks-is : (p : Parts) (x : Additions) → first_fault (checks p x) ≡ first_fault (top_checks p x ++ (endpoints_part p x ++ (legs_part p ++ sources_part p)))
 unfolding checks
 checks-is p x =
-    let same : checks p x ≡ top_checks p ++ (endpoints_part p x ++ (legs_part p ++ sources_part p)) = simp append_assoc in
+    let same : checks p x ≡ top_checks p x ++ (endpoints_part p x ++ (legs_part p ++ sources_part p)) = simp append_assoc in
     ap first_fault same
 
-pub top_fails : (p : Parts) (x : Additions) (f : SettingsFault) → first_fault (top_checks p) ≡ Some f → first_fault (checks p x) ≡ Some f
-top_fails p x f top = checks-is p x ∙ first_fails (top_checks p) (endpoints_part p x ++ (legs_part p ++ sources_part p)) f top
+pub top_fails : (p : Parts) (x : Additions) (f : SettingsFault) → first_fault (top_checks p x) ≡ Some f → first_fault (checks p x) ≡ Some f
+top_fails p x f top = checks-is p x ∙ first_fails (top_checks p x) (endpoints_part p x ++ (legs_part p ++ sources_part p)) f top
 
-past_top : (p : Parts) (x : Additions) → first_fault (top_checks p) ≡ None → first_fault (checks p x) ≡ first_fault (endpoints_part p x ++ (legs_part p ++ sources_part p))
-past_top p x top = checks-is p x ∙ first_passes (top_checks p) (endpoints_part p x ++ (legs_part p ++ sources_part p)) top
+past_top : (p : Parts) (x : Additions) → first_fault (top_checks p x) ≡ None → first_fault (checks p x) ≡ first_fault (endpoints_part p x ++ (legs_part p ++ sources_part p))
+past_top p x top = checks-is p x ∙ first_passes (top_checks p x) (endpoints_part p x ++ (legs_part p ++ sources_part p)) top
 
-pub endpoints_fail : (p : Parts) (x : Additions) (f : SettingsFault) → first_fault (top_checks p) ≡ None → first_fault (endpoints_part p x) ≡ Some f
+pub endpoints_fail : (p : Parts) (x : Additions) (f : SettingsFault) → first_fault (top_checks p x) ≡ None → first_fault (endpoints_part p x) ≡ Some f
     → first_fault (checks p x) ≡ Some f
 endpoints_fail p x f top fails = past_top p x top ∙ first_fails (endpoints_part p x) (legs_part p ++ sources_part p) f fails
 
-past_endpoints : (p : Parts) (x : Additions) → first_fault (top_checks p) ≡ None → first_fault (endpoints_part p x) ≡ None
+past_endpoints : (p : Parts) (x : Additions) → first_fault (top_checks p x) ≡ None → first_fault (endpoints_part p x) ≡ None
     → first_fault (checks p x) ≡ first_fault (legs_part p ++ sources_part p)
 past_endpoints p x top endpoints = past_top p x top ∙ first_passes (endpoints_part p x) (legs_part p ++ sources_part p) endpoints
 
-pub legs_fail : (p : Parts) (x : Additions) (f : SettingsFault) → first_fault (top_checks p) ≡ None → first_fault (endpoints_part p x) ≡ None
+pub legs_fail : (p : Parts) (x : Additions) (f : SettingsFault) → first_fault (top_checks p x) ≡ None → first_fault (endpoints_part p x) ≡ None
     → first_fault (legs_part p) ≡ Some f → first_fault (checks p x) ≡ Some f
 legs_fail p x f top endpoints fails = past_endpoints p x top endpoints ∙ first_fails (legs_part p) (sources_part p) f fails
 
-past_legs : (p : Parts) (x : Additions) → first_fault (top_checks p) ≡ None → first_fault (endpoints_part p x) ≡ None → first_fault (legs_part p) ≡ None
+past_legs : (p : Parts) (x : Additions) → first_fault (top_checks p x) ≡ None → first_fault (endpoints_part p x) ≡ None → first_fault (legs_part p) ≡ None
     → first_fault (checks p x) ≡ first_fault (sources_part p)
 past_legs p x top endpoints legs = past_endpoints p x top endpoints ∙ first_passes (legs_part p) (sources_part p) legs
 
-pub sources_fail : (p : Parts) (x : Additions) → first_fault (top_checks p) ≡ None → first_fault (endpoints_part p x) ≡ None → first_fault (legs_part p) ≡ None
+pub sources_fail : (p : Parts) (x : Additions) → first_fault (top_checks p x) ≡ None → first_fault (endpoints_part p x) ≡ None → first_fault (legs_part p) ≡ None
     → are_distinct (sources p) ≡ false → first_fault (checks p x) ≡ Some SameSsrc
 sources_fail p x top endpoints legs twice = past_legs p x top endpoints legs ∙ rw twice refl
 
-pub all_pass : (p : Parts) (x : Additions) → first_fault (top_checks p) ≡ None → first_fault (endpoints_part p x) ≡ None → first_fault (legs_part p) ≡ None
+pub all_pass : (p : Parts) (x : Additions) → first_fault (top_checks p x) ≡ None → first_fault (endpoints_part p x) ≡ None → first_fault (legs_part p) ≡ None
     → are_distinct (sources p) ≡ true → first_fault (checks p x) ≡ None
 all_pass p x top endpoints legs distinct = past_legs p x top endpoints legs ∙ rw distinct refl
 
@@ -193,10 +193,10 @@ record TopPasses (p : Parts) : Type 0 where
   endpoint : (nat_le 1 (length p.endpoints.items) && nat_le (length p.endpoints.items) MAX_ENDPOINTS) ≡ true
   leg : nat_le (length p.legs.items) MAX_LEGS ≡ true
 
-top_passes : (p : Parts) → first_fault (top_checks p) ≡ None → TopPasses p
+top_passes : (p : Parts) (x : Additions) → first_fault (top_checks p x) ≡ None → TopPasses p
 unfolding top_checks
-top_passes p passes =
-    let each = each_passes (top_checks p) passes in
+top_passes p x passes =
+    let each = each_passes (top_checks p x) passes in
     let any : Check = check true SameSsrc in
     record {
       cname = each 0 any (omega arith);
@@ -204,11 +204,11 @@ top_passes p passes =
       leg = each 3 any (omega arith);
     }
 
-pub endpoint_bounds : (p : Parts) → first_fault (top_checks p) ≡ None → (1 ≤ length p.endpoints.items) × (length p.endpoints.items ≤ MAX_ENDPOINTS)
-endpoint_bounds p top = let e = (top_passes p top).endpoint in grind (arith, nat_tests)
+pub endpoint_bounds : (p : Parts) (x : Additions) → first_fault (top_checks p x) ≡ None → (1 ≤ length p.endpoints.items) × (length p.endpoints.items ≤ MAX_ENDPOINTS)
+endpoint_bounds p x top = let e = (top_passes p x top).endpoint in grind (arith, nat_tests)
 
-pub leg_bound : (p : Parts) → first_fault (top_checks p) ≡ None → length p.legs.items ≤ MAX_LEGS
-leg_bound p top = let e = (top_passes p top).leg in grind (arith, nat_tests)
+pub leg_bound : (p : Parts) (x : Additions) → first_fault (top_checks p x) ≡ None → length p.legs.items ≤ MAX_LEGS
+leg_bound p x top = let e = (top_passes p x top).leg in grind (arith, nat_tests)
 
 name_bounds : (name : List ℕ) → is_cname name ≡ true → (1 ≤ length name) × (length name ≤ CNAME_LIMIT)
 name_bounds name is = grind (arith, nat_tests)
@@ -223,18 +223,18 @@ none_split (c ∷ cs) ys passes = step c.passes (none_split cs ys) passes
     step true rest p = rest p
     step false rest p = absurd (cc)
 
-pub top_of : (p : Parts) (x : Additions) → first_fault (checks p x) ≡ None → first_fault (top_checks p) ≡ None
-top_of p x passes = (none_split (top_checks p) (endpoints_part p x ++ (legs_part p ++ sources_part p)) (sym (checks-is p x) ∙ passes)).0
+pub top_of : (p : Parts) (x : Additions) → first_fault (checks p x) ≡ None → first_fault (top_checks p x) ≡ None
+top_of p x passes = (none_split (top_checks p x) (endpoints_part p x ++ (legs_part p ++ sources_part p)) (sym (checks-is p x) ∙ passes)).0
 
 legs_of : (p : Parts) (x : Additions) → first_fault (checks p x) ≡ None → first_fault (legs_part p) ≡ None
 legs_of p x passes =
-    let behind = (none_split (top_checks p) (endpoints_part p x ++ (legs_part p ++ sources_part p)) (sym (checks-is p x) ∙ passes)).1 in
+    let behind = (none_split (top_checks p x) (endpoints_part p x ++ (legs_part p ++ sources_part p)) (sym (checks-is p x) ∙ passes)).1 in
     let last = (none_split (endpoints_part p x) (legs_part p ++ sources_part p) behind).1 in
     (none_split (legs_part p) (sources_part p) last).0
 
 endpoints_of : (p : Parts) (x : Additions) → first_fault (checks p x) ≡ None → first_fault (endpoints_part p x) ≡ None
 endpoints_of p x passes =
-    let behind = (none_split (top_checks p) (endpoints_part p x ++ (legs_part p ++ sources_part p)) (sym (checks-is p x) ∙ passes)).1 in
+    let behind = (none_split (top_checks p x) (endpoints_part p x ++ (legs_part p ++ sources_part p)) (sym (checks-is p x) ∙ passes)).1 in
     (none_split (endpoints_part p x) (legs_part p ++ sources_part p) behind).0
 
 -- if the checks of all pass, so do those of the one at this place
@@ -289,7 +289,7 @@ names_fit p x passes k below =
     let es = p.endpoints.items in
     let from = passes_from (endpoint_checks x) es k None (omega arith) (endpoints_of p x passes) in
     let here = (passes_at (endpoint_checks x) es k None below from).0 in
-    (name_bounds (said_name p x k) (name_passes p x k (get_or es k None) (top_passes p (top_of p x passes)).cname here)).1
+    (name_bounds (said_name p x k) (name_passes p x k (get_or es k None) (top_passes p x (top_of p x passes)).cname here)).1
 
 -- a number that is there is below its limit
 record IsThere (v : Option ℤ) (n : ℕ) : Type 0 where
@@ -439,13 +439,14 @@ sources_differ p distinct =
     rw (map-map (λ (e : Ssrc). e.0) ssrc_of p.endpoints.items, map-map (λ (l : LegSettings). l.out_ssrc.0) (leg_of (length p.endpoints.items)) p.legs.items)
     (pairs_distinct (sources p) distinct)
 
-pub in_range : (p : Parts) (x : Additions) (n : Numbers) → AreNumbersOf p n → first_fault (checks p x) ≡ None
+pub in_range : (p : Parts) (x : Additions) (n : Numbers) → AreNumbersOf p x n → first_fault (checks p x) ≡ None
     → IsInRange (record {
       workers = n.workers;
       ring = n.ring;
       history = n.history;
       timeout_ms = n.timeout_ms;
       report_ms = n.report_ms;
+      report_slots = n.report_slots;
       request_ms = n.request_ms;
       pli_gap_ms = n.pli_gap_ms;
       unit_ssrc = ssrc_of p.unit_ssrc;
@@ -457,9 +458,9 @@ pub in_range : (p : Parts) (x : Additions) (n : Numbers) → AreNumbersOf p n �
     })
 in_range p x n is whole =
     let top = top_of p x whole in
-    let passes = top_passes p top in
-    let endpoints = endpoint_bounds p top in
-    let legs = leg_bound p top in
+    let passes = top_passes p x top in
+    let endpoints = endpoint_bounds p x top in
+    let legs = leg_bound p x top in
     record {
       least_workers = (within_bounds p.workers 1 MAX_WORKERS n.workers is.workers).0;
       most_workers = (within_bounds p.workers 1 MAX_WORKERS n.workers is.workers).1;
@@ -471,6 +472,8 @@ in_range p x n is whole =
       most_timeout = (within_bounds p.timeout_ms 1 MAX_PERIOD_MS n.timeout_ms is.timeout_ms).1;
       least_report = (within_bounds p.report_ms 1 MAX_PERIOD_MS n.report_ms is.report_ms).0;
       most_report = (within_bounds p.report_ms 1 MAX_PERIOD_MS n.report_ms is.report_ms).1;
+      least_slots = (within_bounds (or_one x.report_slots) 1 MAX_REPORT_SLOTS n.report_slots is.report_slots).0;
+      most_slots = (within_bounds (or_one x.report_slots) 1 MAX_REPORT_SLOTS n.report_slots is.report_slots).1;
       most_request = (within_bounds (or_zero p.request_ms) 0 MAX_PERIOD_MS n.request_ms is.request_ms).1;
       most_gap = (within_bounds p.pli_gap_ms 0 MAX_PERIOD_MS n.pli_gap_ms is.pli_gap_ms).1;
       least_cname = (name_bounds (name_of p.cname) passes.cname).0;

@@ -10,7 +10,7 @@ use Rattle.settings.specs.declared.parts.LegParts.{LegParts}
 use Rattle.settings.specs.declared.rules.LegRules.{LegRules}
 use Rattle.settings.specs.declared.settings.LegSettings.{LegSettings}
 use Rattle.settings.specs.declared.checks.Numbers.{Numbers}
-use Rattle.settings.specs.declared.limits.TheConstants.{MAX_ENDPOINTS, MAX_LEGS, MAX_WORKERS, MAX_RING, LEAST_HISTORY, MAX_HISTORY, MAX_PERIOD_MS, SSRCS}
+use Rattle.settings.specs.declared.limits.TheConstants.{MAX_ENDPOINTS, MAX_LEGS, MAX_WORKERS, MAX_RING, LEAST_HISTORY, MAX_HISTORY, MAX_PERIOD_MS, MAX_REPORT_SLOTS, SSRCS}
 use Rattle.rewrite.specs.declared.sequence.TheConstants.{SEQ_CYCLE}
 use Rattle.settings.specs.declared.fault.SettingsFault.{SettingsFault}
 use Rattle.settings.specs.declared.fault.SettingsFault.TheVariants.{Top, Endpoint, Leg, SameSsrc}
@@ -31,6 +31,10 @@ number_below (Some (negsuc n)) limit = None
 -- a number that may be absent: 0 then
 abbrev pub or_zero : Option ℤ → Option ℤ
 or_zero value = Some (unwrap_or value (pos 0))
+
+-- a number that may be absent: 1 then
+abbrev pub or_one : Option ℤ → Option ℤ
+or_one value = Some (unwrap_or value (pos 1))
 
 -- both are there and equal
 abbrev pub is_same : Option ℕ → Option ℕ → Bool
@@ -60,14 +64,17 @@ abbrev pub is_cname_or_none : Option (List ℕ) → Bool
 is_cname_or_none None = true
 is_cname_or_none (Some name) = is_cname name
 
--- what is asked of a room beyond its parts: how legs begin and end, and by their numbers the endpoints' own names
+-- what is asked of a room beyond its parts: in how many slots reports go out, how legs begin and end, and by their numbers the
+-- endpoints' own names
 pub record Additions : Type 0 where
+  pub report_slots : Option ℤ
   pub rules : LegRules
   pub names : List (Option (List ℕ))
 
 -- legs begin and end without a word, unless the extras say otherwise
 abbrev pub additions_of : Extras → Additions
 additions_of x = record {
+  report_slots = x.report_slots;
   rules = record {
     early_pictures = unwrap_or x.early_pictures false;
     leg_goodbyes = unwrap_or x.leg_goodbyes false;
@@ -75,9 +82,10 @@ additions_of x = record {
   names = map (option_map string_bytes) x.cnames.items;
 }
 
--- nothing is asked beyond the parts: legs begin and end without a word, and no endpoint has a name of its own
+-- nothing is asked beyond the parts: reports go out at once, legs begin and end without a word, and no endpoint has a name of its own
 abbrev pub no_additions : Additions
 no_additions = record {
+  report_slots = None;
   rules = record { early_pictures = false; leg_goodbyes = false };
   names = [];
 }
@@ -87,8 +95,8 @@ abbrev pub own_name : Additions → ℕ → Option (List ℕ)
 own_name x k = option_and_then (λ name. name) (slice_get x.names k)
 
 -- the keys of the table, by their names
-unfoldable pub top_checks : Parts → List Check
-top_checks p =
+unfoldable pub top_checks : Parts → Additions → List Check
+top_checks p x =
     check (is_cname (name_of p.cname)) (Top key.Cname)
     ∷ check (nat_le 1 (length p.endpoints.items) && nat_le (length p.endpoints.items) MAX_ENDPOINTS)
     (Top key.Endpoint)
@@ -96,6 +104,7 @@ top_checks p =
     ∷ check (nat_le (length p.legs.items) MAX_LEGS) (Top key.Leg)
     ∷ check (is_some (number_within p.pli_gap_ms 0 MAX_PERIOD_MS)) (Top key.PliGapMs)
     ∷ check (is_some (number_within p.report_ms 1 MAX_PERIOD_MS)) (Top key.ReportMs)
+    ∷ check (is_some (number_within (or_one x.report_slots) 1 MAX_REPORT_SLOTS)) (Top key.ReportSlots)
     ∷ check (is_some (number_within (or_zero p.request_ms) 0 MAX_PERIOD_MS)) (Top key.RequestMs)
     ∷ check (is_some (number_within p.ring 1 MAX_RING)) (Top key.Ring)
     ∷ check (is_some (number_within p.timeout_ms 1 MAX_PERIOD_MS)) (Top key.TimeoutMs)
@@ -152,7 +161,7 @@ are_distinct (x ∷ xs) = not (list_any (λ y. y == x) xs) && are_distinct xs
 -- every check, in order
 unfoldable pub checks : Parts → Additions → List Check
 checks p x =
-    top_checks p
+    top_checks p x
     ++ flat_map (endpoint_checks x) (enumerate_from 0 p.endpoints.items)
     ++ flat_map (leg_checks p) (enumerate_from 0 p.legs.items)
     ++ check (are_distinct (sources p)) SameSsrc ∷ []
@@ -169,6 +178,7 @@ pub record Configuration : Type 0 where
   pub history : ℕ
   pub timeout_ms : ℕ
   pub report_ms : ℕ
+  pub report_slots : ℕ
   pub request_ms : ℕ
   pub pli_gap_ms : ℕ
   pub unit_ssrc : Ssrc
@@ -208,6 +218,7 @@ configuration_of p x = record {
   history = unwrap_or (number_within p.history LEAST_HISTORY MAX_HISTORY) 0;
   timeout_ms = unwrap_or (number_within p.timeout_ms 1 MAX_PERIOD_MS) 0;
   report_ms = unwrap_or (number_within p.report_ms 1 MAX_PERIOD_MS) 0;
+  report_slots = unwrap_or (number_within (or_one x.report_slots) 1 MAX_REPORT_SLOTS) 0;
   request_ms = unwrap_or (number_within (or_zero p.request_ms) 0 MAX_PERIOD_MS) 0;
   pli_gap_ms = unwrap_or (number_within p.pli_gap_ms 0 MAX_PERIOD_MS) 0;
   unit_ssrc = ssrc_of p.unit_ssrc;
@@ -245,6 +256,8 @@ pub record IsInRange (s : Configuration) : Type 0 where
   pub most_timeout : s.timeout_ms ≤ MAX_PERIOD_MS
   pub least_report : 1 ≤ s.report_ms
   pub most_report : s.report_ms ≤ MAX_PERIOD_MS
+  pub least_slots : 1 ≤ s.report_slots
+  pub most_slots : s.report_slots ≤ MAX_REPORT_SLOTS
   pub most_request : s.request_ms ≤ MAX_PERIOD_MS
   pub most_gap : s.pli_gap_ms ≤ MAX_PERIOD_MS
   pub least_cname : 1 ≤ length s.cname
@@ -258,12 +271,13 @@ pub record IsInRange (s : Configuration) : Type 0 where
   pub pairs : AllPairs HasOtherEnds s.legs
   pub sources : AllPairs (λ a b. a ≢ b) (sources_of s)
 
--- the plain numbers of these parts, in their ranges
-pub record AreNumbersOf (p : Parts) (n : Numbers) : Type 0 where
+-- the plain numbers of these parts and of what is asked beyond them, in their ranges
+pub record AreNumbersOf (p : Parts) (x : Additions) (n : Numbers) : Type 0 where
   pub workers : number_within p.workers 1 MAX_WORKERS ≡ Some n.workers
   pub ring : number_within p.ring 1 MAX_RING ≡ Some n.ring
   pub history : number_within p.history LEAST_HISTORY MAX_HISTORY ≡ Some n.history
   pub timeout_ms : number_within p.timeout_ms 1 MAX_PERIOD_MS ≡ Some n.timeout_ms
   pub report_ms : number_within p.report_ms 1 MAX_PERIOD_MS ≡ Some n.report_ms
+  pub report_slots : number_within (or_one x.report_slots) 1 MAX_REPORT_SLOTS ≡ Some n.report_slots
   pub request_ms : number_within (or_zero p.request_ms) 0 MAX_PERIOD_MS ≡ Some n.request_ms
   pub pli_gap_ms : number_within p.pli_gap_ms 0 MAX_PERIOD_MS ≡ Some n.pli_gap_ms

@@ -2,12 +2,12 @@
 
 ghost use Rattle.std.specs.Prelude.{◌≡◌, ◌+◌, ◌<◌, ◌≤◌, ◌^◌, length, drop, flat_map, MatchResult, IfSome, Some, None, nat_lt, true, false, not, ◌==◌, slice_index, slice_index_or, option_map};
 ghost use Rattle.std.specs.List.{list_all, list_any, enumerate_from};
-ghost use Rattle.settings.specs.Settings.{number_within, number_below, or_zero, is_same, name_of, is_cname, is_cname_or_none, own_name, additions_of, top_checks, endpoint_checks, leg_checks, has_pair, sources, number_or_zero, are_distinct, first_fault, AreNumbersOf, checks};
+ghost use Rattle.settings.specs.Settings.{number_within, number_below, or_one, or_zero, is_same, name_of, is_cname, is_cname_or_none, own_name, additions_of, top_checks, endpoint_checks, leg_checks, has_pair, sources, number_or_zero, are_distinct, first_fault, AreNumbersOf, checks};
 
 use crate::fault::{Key, SettingsFault};
 use crate::limits::{
-    LEAST_HISTORY, MAX_ENDPOINTS, MAX_HISTORY, MAX_LEGS, MAX_PERIOD_MS, MAX_RING, MAX_WORKERS,
-    SSRCS,
+    LEAST_HISTORY, MAX_ENDPOINTS, MAX_HISTORY, MAX_LEGS, MAX_PERIOD_MS, MAX_REPORT_SLOTS, MAX_RING,
+    MAX_WORKERS, SSRCS,
 };
 use crate::parts::{Extras, LegParts, Parts};
 use rewrite::SEQ_CYCLE;
@@ -21,6 +21,7 @@ pub struct Numbers {
     pub history: u64,
     pub timeout_ms: u64,
     pub report_ms: u64,
+    pub report_slots: u64,
     pub request_ms: u64,
     pub pli_gap_ms: u64,
 }
@@ -59,6 +60,13 @@ fn or_zero(value: Option<i64>) -> Option<i64>
     ensures { result ≡ or_zero value }
 {
     Some(value.unwrap_or(0))
+}
+
+/// A number that may be absent: 1 then.
+fn or_one(value: Option<i64>) -> Option<i64>
+    ensures { result ≡ or_one value }
+{
+    Some(value.unwrap_or(1))
 }
 
 /// Whether both are there and equal.
@@ -125,10 +133,11 @@ fn require(passes: bool, fault: SettingsFault) -> Result<(), SettingsFault>
 impl Numbers {
     /// The plain numbers, if every key of the table passes; else the first fault.
     #[tactic(auto, unfolding(crate::specs::Settings::top_checks))]
-    fn read(parts: &Parts) -> Result<Numbers, SettingsFault>
+    fn read(parts: &Parts, extras: &Extras) -> Result<Numbers, SettingsFault>
         ensures { MatchResult result
-            (λ n. (first_fault (top_checks parts.now) ≡ None) × AreNumbersOf parts.now n)
-            (λ f. first_fault (top_checks parts.now) ≡ Some f) }
+            (λ n. (first_fault (top_checks parts.now (additions_of extras.now)) ≡ None)
+            × AreNumbersOf parts.now (additions_of extras.now) n)
+            (λ f. first_fault (top_checks parts.now (additions_of extras.now)) ≡ Some f) }
     {
         let top = SettingsFault::Top;
         require(is_name(&parts.cname), top(Key::Cname))?;
@@ -144,6 +153,8 @@ impl Numbers {
         let pli_gap_ms = pli_gap_ms.ok_or(top(Key::PliGapMs))?;
         let report_ms = number_in(parts.report_ms, 1, MAX_PERIOD_MS);
         let report_ms = report_ms.ok_or(top(Key::ReportMs))?;
+        let report_slots = number_in(or_one(extras.report_slots), 1, MAX_REPORT_SLOTS);
+        let report_slots = report_slots.ok_or(top(Key::ReportSlots))?;
         let request_ms = number_in(or_zero(parts.request_ms), 0, MAX_PERIOD_MS);
         let request_ms = request_ms.ok_or(top(Key::RequestMs))?;
         let ring = number_in(parts.ring, 1, MAX_RING).ok_or(top(Key::Ring))?;
@@ -157,6 +168,7 @@ impl Numbers {
             history,
             timeout_ms,
             report_ms,
+            report_slots,
             request_ms,
             pli_gap_ms,
         })
@@ -301,10 +313,10 @@ fn are_all_distinct(parts: &Parts) -> bool
 pub fn checked(parts: &Parts, extras: &Extras) -> Result<Numbers, SettingsFault>
     ensures { MatchResult result
         (λ n. (first_fault (checks parts.now (additions_of extras.now)) ≡ None)
-        × AreNumbersOf parts.now n)
+        × AreNumbersOf parts.now (additions_of extras.now) n)
         (λ f. first_fault (checks parts.now (additions_of extras.now)) ≡ Some f) }
 {
-    let numbers = Numbers::read(parts)?;
+    let numbers = Numbers::read(parts, extras)?;
     check_endpoints(parts, extras)?;
     check_legs(parts)?;
     if !are_all_distinct(parts) {

@@ -21,5 +21,8 @@ pub const MAX_HISTORY: u64 = 65_536;
 /// The longest time that settings name, in milliseconds: a day.
 pub const MAX_PERIOD_MS: u64 = 86_400_000;
 
+/// In how many slots the reports of a period may go out.
+pub const MAX_REPORT_SLOTS: u64 = 1000;
+
 /// How many sources there are (RFC 3550, section 5.1).
 pub const SSRCS: u64 = 1 << 32;

@@ -58,6 +58,8 @@ impl Parts {
 /// What may be asked of a room beyond its `Parts`. Nothing of it has to be there.
 #[derive(Drop)]
 pub struct Extras {
+    /// In how many slots of `report_ms` reports go out, 1 to 1,000; 1, which is all at once, if absent.
+    pub report_slots: Option<i64>,
     /// Whether a leg that begins asks for a picture at once; false if absent.
     pub early_pictures: Option<bool>,
     /// Whether a leg's subscriber is told when its publisher is gone; false if absent.
@@ -76,6 +78,7 @@ impl Extras {
         ensures { additions_of result ≡ no_additions }
     {
         Extras {
+            report_slots: None,
             early_pictures: None,
             leg_goodbyes: None,
             cnames: Vec::new(alloc),

@@ -54,6 +54,7 @@ impl Model for Settings {
       history = s.numbers.history;
       timeout_ms = s.numbers.timeout_ms;
       report_ms = s.numbers.report_ms;
+      report_slots = s.numbers.report_slots;
       request_ms = s.numbers.request_ms;
       pli_gap_ms = s.numbers.pli_gap_ms;
       unit_ssrc = s.unit_ssrc;
@@ -70,6 +71,7 @@ impl Model for Settings {
       history = s.numbers.history;
       timeout_ms = s.numbers.timeout_ms;
       report_ms = s.numbers.report_ms;
+      report_slots = s.numbers.report_slots;
       request_ms = s.numbers.request_ms;
       pli_gap_ms = s.numbers.pli_gap_ms;
       unit_ssrc = s.unit_ssrc;
@@ -181,7 +183,7 @@ fn copied(
     extras: &Extras,
     numbers: Numbers,
 ) -> Result<Settings, AllocError>
-    requires numbers { AreNumbersOf parts.now numbers }
+    requires numbers { AreNumbersOf parts.now (additions_of extras.now) numbers }
     requires passes { first_fault (checks parts.now (additions_of extras.now)) ≡ None }
     ensures { IfOk result (λ s. s ≡ configuration_of parts.now (additions_of extras.now)) }
 {
@@ -278,6 +280,14 @@ impl Settings {
         ensures range { IsInRange self.now }
     {
         self.numbers.report_ms
+    }
+
+    /// In how many slots the reports of a period go out, at least 1; all at once, if it is 1.
+    pub fn report_slots(&self) -> u64
+        ensures value { result ≡ self.now.report_slots }
+        ensures range { IsInRange self.now }
+    {
+        self.numbers.report_slots
     }
 
     /// The age at which a request is given up, in milliseconds; 0 if it never is.

@@ -82,10 +82,11 @@ no_top key value m =
       v.1.1.1.1.1.1.1.1.1.1.1.1.1.1.1.1.1.1.1.1.0,
       v.1.1.1.1.1.1.1.1.1.1.1.1.1.1.1.1.1.1.1.1.1.0,
       v.1.1.1.1.1.1.1.1.1.1.1.1.1.1.1.1.1.1.1.1.1.1.0,
+      v.1.1.1.1.1.1.1.1.1.1.1.1.1.1.1.1.1.1.1.1.1.1.1.0,
     ) refl
 
 each_top : EachTaken takes_top top_rows
-each_top = ((array no_items, refl), ((array no_items, refl), ((string [], refl), ((boolean true, refl), ((integer (pos 0), refl), ((integer (pos 0), refl), ((string [], refl), ((boolean true, refl), ((string [], refl), ((string [], refl), ((boolean true, refl), ((string [], refl), ((integer (pos 0), refl), ((string [], refl), ((integer (pos 0), refl), ((integer (pos 0), refl), ((integer (pos 0), refl), ((integer (pos 0), refl), ((string [], refl), ((integer (pos 0), refl), ((boolean true, refl), ((integer (pos 1), refl), ((string [], refl), ((string [], refl), ((string [], refl), tt)))))))))))))))))))))))))
+each_top = ((array no_items, refl), ((array no_items, refl), ((string [], refl), ((boolean true, refl), ((integer (pos 0), refl), ((integer (pos 0), refl), ((string [], refl), ((boolean true, refl), ((string [], refl), ((string [], refl), ((boolean true, refl), ((string [], refl), ((integer (pos 0), refl), ((string [], refl), ((integer (pos 0), refl), ((integer (pos 0), refl), ((integer (pos 0), refl), ((integer (pos 0), refl), ((integer (pos 0), refl), ((string [], refl), ((integer (pos 0), refl), ((boolean true, refl), ((integer (pos 1), refl), ((string [], refl), ((string [], refl), ((string [], refl), tt))))))))))))))))))))))))))
 
 pub top_keys : AreTheKeys takes_top top_rows
 top_keys = record { taken = λ key. taken_in takes_top top_rows key each_top; told = told_in takes_top top_rows no_top }

@@ -130,7 +130,8 @@ takes_top key value =
     then is_some (as_bool value)
     else if bytes_eq key (codes "new_starts") || bytes_eq key (codes "strict_ssrc")
     then is_some (as_bool value)
-    else if bytes_eq key (codes "request_ms") then is_some (as_integer value)
+    else if bytes_eq key (codes "report_slots") || bytes_eq key (codes "request_ms")
+    then is_some (as_integer value)
     else if bytes_eq key (codes "entry_limit") then is_under ENTRIES value
     else if bytes_eq key (codes "flood_limit") then is_under FLOODS value
     else if bytes_eq key (codes "repeat_ms") then is_repeat value

@@ -177,6 +177,7 @@ pub record ArePartsOf (t : Members) (p : Parts) : Type 0 where
 
 -- So are the extras.
 pub record AreExtrasOf (t : Members) (x : Extras) : Type 0 where
+  pub report_slots : x.report_slots ≡ integer_in (get_member (codes "report_slots") t)
   pub early_pictures : x.early_pictures ≡ bool_in (get_member (codes "early_pictures") t)
   pub leg_goodbyes : x.leg_goodbyes ≡ bool_in (get_member (codes "leg_goodbyes") t)
   pub cnames : map text_bytes x.cnames.items

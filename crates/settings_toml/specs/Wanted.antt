@@ -5,7 +5,7 @@ use Rattle.std.specs.Str.{bytes_eq}
 use Rattle.toml.specs.Data.{Data}
 use Rattle.rewrite.specs.declared.sequence.TheConstants.{SEQ_CYCLE}
 use Rattle.rtcp_compound.specs.declared.writer.TheConstants.{CNAME_LIMIT}
-use Rattle.settings.specs.declared.limits.TheConstants.{LEAST_HISTORY, MAX_ENDPOINTS, MAX_HISTORY, MAX_LEGS, MAX_PERIOD_MS, MAX_RING, MAX_WORKERS, SSRCS}
+use Rattle.settings.specs.declared.limits.TheConstants.{LEAST_HISTORY, MAX_ENDPOINTS, MAX_HISTORY, MAX_LEGS, MAX_PERIOD_MS, MAX_REPORT_SLOTS, MAX_RING, MAX_WORKERS, SSRCS}
 use Rattle.settings_toml.specs.SettingsFaults.{Spot, endpoint, leg, sources, top}
 use Rattle.settings_toml.specs.declared.bound_keys.TheConstants.{ENTRIES, FLOODS, GAPS_MS, LEAST_REPEAT_MS, LEAST_STALL_MS, REPEATS_MS, SHARES, STALLS_MS}
 use Rattle.settings_toml.specs.declared.name_key.TheConstants.{MOST_NAME}
@@ -44,6 +44,7 @@ value_rows =
     ∷ key_row (codes "pli_gap_ms") (Whole 0 MAX_PERIOD_MS)
     ∷ key_row (codes "repeat_ms") (WholeOrZero LEAST_REPEAT_MS (REPEATS_MS - 1))
     ∷ key_row (codes "report_ms") (Whole 1 MAX_PERIOD_MS)
+    ∷ key_row (codes "report_slots") (Whole 1 MAX_REPORT_SLOTS)
     ∷ key_row (codes "request_gap_ms") (Whole 0 (GAPS_MS - 1))
     ∷ key_row (codes "request_ms") (Whole 0 MAX_PERIOD_MS)
     ∷ key_row (codes "resend_gap_ms") (Whole 0 (GAPS_MS - 1))

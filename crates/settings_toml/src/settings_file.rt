@@ -220,6 +220,7 @@ pub(crate) fn extras_of(alloc: Global, table: &Table) -> Result<Extras, AllocErr
     ensures { IfOk result (AreExtrasOf (table_view table.now)) }
 {
     Ok(Extras {
+        report_slots: integer_at(table, "report_slots"),
         early_pictures: bool_at(table, "early_pictures"),
         leg_goodbyes: bool_at(table, "leg_goodbyes"),
         cnames: cnames_of(alloc, items_at(table, "endpoint"))?,

@@ -60,7 +60,7 @@ fn takes_top(key: &str, value: &Value) -> bool
         "listen_rtcp" => value.is_str(),
         "early_pictures" | "leg_goodbyes" => value.is_bool(),
         "new_starts" | "strict_ssrc" => value.is_bool(),
-        "request_ms" => value.is_integer(),
+        "report_slots" | "request_ms" => value.is_integer(),
         "entry_limit" => is_under(value, ENTRIES),
         "flood_limit" => is_under(value, FLOODS),
         "repeat_ms" => is_repeat(value),

@@ -10,7 +10,7 @@ use crate::settings_keys::Place;
 use std::alloc::{AllocError, Global};
 
 /// The keys of the settings.
-pub(crate) const TOP_KEYS: [&str; 25] = [
+pub(crate) const TOP_KEYS: [&str; 26] = [
     "endpoint",
     "leg",
     "cname",
@@ -25,6 +25,7 @@ pub(crate) const TOP_KEYS: [&str; 25] = [
     "pli_gap_ms",
     "repeat_ms",
     "report_ms",
+    "report_slots",
     "request_gap_ms",
     "request_ms",
     "resend_gap_ms",
@@ -132,6 +133,7 @@ fn wanted_top(key: &str) -> Option<Wanted>
         "pli_gap_ms" => Some(Wanted::Whole(0, 86_400_000)),
         "repeat_ms" => Some(Wanted::WholeOrZero(100, 60_000)),
         "report_ms" => Some(Wanted::Whole(1, 86_400_000)),
+        "report_slots" => Some(Wanted::Whole(1, 1000)),
         "request_gap_ms" => Some(Wanted::Whole(0, 60_000)),
         "request_ms" => Some(Wanted::Whole(0, 86_400_000)),
         "resend_gap_ms" => Some(Wanted::Whole(0, 60_000)),
@@ -262,7 +264,7 @@ pub(crate) fn keys(place: Place<'_>) -> &'static str
         }
         Place::Leg(_, _) => "first_seq, on, out_ssrc, publisher and subscriber",
         Place::Top(_) | Place::Sources => {
-            "cname, early_pictures, entry_limit, flood_limit, history, leg_goodbyes, listen, listen_rtcp, new_starts, pli_gap_ms, repeat_ms, report_ms, request_gap_ms, request_ms, resend_gap_ms, resend_share, ring, stall_ms, strict_ssrc, tick_ms, timeout_ms, unit_ssrc and workers"
+            "cname, early_pictures, entry_limit, flood_limit, history, leg_goodbyes, listen, listen_rtcp, new_starts, pli_gap_ms, repeat_ms, report_ms, report_slots, request_gap_ms, request_ms, resend_gap_ms, resend_share, ring, stall_ms, strict_ssrc, tick_ms, timeout_ms, unit_ssrc and workers"
         }
     }
 }

@@ -31,6 +31,6 @@ returns c = (
 
 pub are_all_distinct-requires : goal.are_all_distinct-requires
 are_all_distinct-requires c =
-    let endpoints = (endpoint_bounds c.args.parts.now c.in_ok-numbers.ensures.0).1 in
-    let legs = leg_bound c.args.parts.now c.in_ok-numbers.ensures.0 in
+    let endpoints = (endpoint_bounds c.args.parts.now (additions_of c.args.extras.now) c.in_ok-numbers.ensures.0).1 in
+    let legs = leg_bound c.args.parts.now (additions_of c.args.extras.now) c.in_ok-numbers.ensures.0 in
     omega (arith, endpoints, legs)

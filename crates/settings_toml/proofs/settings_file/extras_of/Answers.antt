@@ -5,6 +5,7 @@ use Rattle.settings_toml.proofs.settings_file.extras_of.Goals as goal
 
 pub returns : goal.returns
 returns c = record {
+  report_slots = c.integer_at.ensures;
   early_pictures = c.bool_at.ensures;
   leg_goodbyes = c.bool_at-2.ensures;
   cnames = c.in_ok-cnames_of.ensures ∙ map-view cname_in c.items_at.result.now ∙ ap (map cname_in) c.items_at.ensures;
