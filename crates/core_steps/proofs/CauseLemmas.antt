@@ -1,13 +1,14 @@
 -- How the parts of a happening hang together: the orders among the tasks that it made are those of the room's calls; and it asked the
 -- desk that the task or the job which it did asks.
 use Rattle.std.proofs.Common.{◌≡◌, ℕ, List, [], ◌∷◌, ◌++◌, Bool, true, false, Option, None, Some, refl, ap, sym, ◌∙◌, append-nil}
-use Rattle.std.specs.Prelude.{◌==◌, ◌&&◌, slice_get, map, if◌then◌else◌}
+use Rattle.std.specs.Prelude.{◌==◌, ◌&&◌, filter, slice_get, map, length, if◌then◌else◌}
 use Rattle.std.specs.List.{flat_map, filter_map, cons_option, last_or, enumerate_from}
 use Rattle.std.specs.Option.{option_map_or}
 use Rattle.std.proofs.lemmas.Grind.{flat_map-append}
 use Rattle.members.specs.declared.order.Order.{Order}
 use Rattle.members.specs.declared.order.Order.TheVariants.{Arrive, Depart, Route}
 use Rattle.settings.specs.declared.settings.LegSettings.{LegSettings}
+use Rattle.members.specs.Presence.{is_present_at}
 use Rattle.members.specs.Room.{RoomState, Step, reception_at}
 use Rattle.members.specs.Stream.{timestamps_of}
 use Rattle.members.specs.Calls.{Report as SenderReport, orders_after}
@@ -23,7 +24,7 @@ use Rattle.events.specs.declared.job.Job.{Job}
 use Rattle.events.specs.declared.job.Job.TheVariants.{Packet, Request, Resend, Pli, Report, Goodbye}
 use Rattle.desk_calls.specs.DeskCalls.{stay_call, picture_call}
 use Rattle.core_steps.specs.Happening.{Happening, RecordedCall, Worked}
-use Rattle.core_steps.specs.Hearing.{receptions, jobs_of, is_left, task_after, tasks_after, task_on, task_for, owner_of, job_by, leg_stay, media_of, serving, expires, reports, is_report_due, leg_report, present_endpoints}
+use Rattle.core_steps.specs.Hearing.{receptions, jobs_of, is_left, task_after, tasks_after, task_on, task_for, owner_of, job_by, leg_stay, media_of, serving, expires, reports, is_report_due, leg_report, present_endpoints, leg_report_if, numbers_below}
 use Rattle.datagram.specs.Saying.{Said, media, leaves, control}
 use Rattle.settings.specs.Links.{LinkTable, leg_to, worker_of}
 use Rattle.core_steps.specs.Rule.{Replies}
@@ -194,14 +195,16 @@ none_leg t r (leg, l) =
     none_if (leg_stay r leg == 0) []
     (push (worker_of t l) (Report leg (leg_stay r leg) (timestamps_of (reception_at r l.publisher).report)) ∷ []) refl refl
 
+none_leg_if : (t : LinkTable) (r : RoomState) (is_due : ℕ → Bool) (p : ℕ × LegSettings) → orders_in (leg_report_if t r is_due p) ≡ []
+none_leg_if t r is_due (leg, l) = none_if (is_due leg) (leg_report t r (leg, l)) [] (none_leg t r (leg, l)) refl
+
 none_reports : (w : WorldState) (r : RoomState) → orders_in (reports w r) ≡ []
 none_reports w r =
-    let up : List Task = map report (present_endpoints w.setup.table r) in
-    let down : List Task = flat_map (leg_report w.setup.table r) (enumerate_from 0 w.setup.table.legs) in
-    none_if (is_report_due w r) (up ++ down) [] (
-    none_append up down (none_map report (present_endpoints w.setup.table r) (λ p. refl))
-    (none_flat (leg_report w.setup.table r) (enumerate_from 0 w.setup.table.legs) (none_leg w.setup.table r))
-    ) refl
+    let t = w.setup.table in
+    let due : ℕ → Bool = is_report_due w r in
+    let up : List ℕ = filter (λ e. is_present_at r.endpoints e && due e) (numbers_below (length t.endpoints)) in
+    none_append (map report up) (flat_map (leg_report_if t r due) (enumerate_from 0 t.legs)) (none_map report up (λ p. refl))
+    (none_flat (leg_report_if t r due) (enumerate_from 0 t.legs) (none_leg_if t r due))
 
 pub orders_ticked : (w : WorldState) (s : Step)
     → orders_in (map order s.orders ++ tasks_after w.setup s ++ map pulse (present_endpoints w.setup.table s.room) ++ expires w.setup s.room

@@ -2,7 +2,7 @@
 use Rattle.std.proofs.Common.{◌≡◌, ◌∙◌, ◌==◌, ℕ, ◌^◌, ◌<◌, List, [], ◌∷◌, ◌++◌, length, map, Bool, false, Result, Ok, Err, refl, sym, ap, ap₂, subst}
 use Rattle.std.proofs.lemmas.List.{append-nil, append_assoc}
 use Rattle.std.specs.Prelude.{Option, None, Some, OnOk, filter, if◌then◌else◌}
-use Rattle.std.specs.List.{last_or, enumerate_from, filter_map, flat_map}
+use Rattle.std.specs.List.{last_or, filter_map, flat_map}
 use Rattle.std.specs.Option.{option_map_or}
 use Rattle.settings.specs.declared.fault.RoomFault.{RoomFault}
 use Rattle.members.specs.declared.order.Order.{Order}
@@ -19,15 +19,18 @@ use Rattle.events.specs.declared.job.Job.TheVariants.{Packet}
 use Rattle.events.specs.declared.output.Out.{Out}
 use Rattle.events.specs.declared.output.Out.TheVariants.{Refused}
 use Rattle.events.specs.declared.output.Refusal.{Refusal}
+use Rattle.core_steps.specs.declared.rounds.Round.{Round}
+use Rattle.core_steps.specs.declared.reporting.Slots.{Slots}
 use Rattle.core_steps.specs.declared.tasks.FollowUp.{FollowUp}
 use Rattle.desk_calls.specs.DeskCalls.{source_of}
 use Rattle.core_steps.specs.FollowUps.{AddsTasks, room_with_report, tasks_due}
 use Rattle.core_steps.specs.Happening.{giving, capped_count}
 use Rattle.datagram.specs.Reads.{Admission, HasBytes, IsSaidIn, WasRead, what_of, asks_of}
 use Rattle.datagram.proofs.PacketLemmas.{media_said}
-use Rattle.core_steps.specs.Hearing.{IsHearing, SaysTaken, hearing, hearing_by, selecting, selecting_by, ticking, numbers_below, is_served_by, leg_report, refusal_for, task_after, task_for, tasks_after, reports, expires, present_endpoints, is_report_due, refusals_of, jobs_of, receptions}
+use Rattle.core_steps.specs.Hearing.{IsHearing, SaysTaken, hearing, hearing_by, selecting, selecting_by, ticking, numbers_below, is_served_by, refusal_for, task_after, task_for, tasks_after, reports, expires, present_endpoints, reports_due, round_after, slots_by, refusals_of, jobs_of, receptions}
 use Rattle.datagram.specs.Saying.{Said, media, leaves, control, Says}
 use Rattle.core_steps.specs.Machine.{task_of}
+use Rattle.core_steps.specs.Rounds.{comes_between, round_with}
 use Rattle.core_steps.specs.Rule.{is_busy}
 use Rattle.core_steps.specs.Run.{Leaves}
 use Rattle.core_steps.specs.World.{WorldState, Task, order, push, pulse}
@@ -40,53 +43,51 @@ ticked_by w r orders =
     map order orders ++ filter_map (task_after w.setup r) orders ++ map pulse (present_endpoints w.setup.table r) ++ expires w.setup r
     ++ reports w r
 
-abbrev pub reported_by : WorldState → RoomState → ℕ
-reported_by w r = if is_report_due w r then r.moment else w.reported
-
 -- what follows from a moment, as the ingress puts it into its list
-pub record FollowsTick (w : WorldState) (r : RoomState) (orders : List Order) (n : ℕ) (is_due : Bool) (f0 f1 f2 f3 : List FollowUp) : Type 0 where
+pub record FollowsTick (w : WorldState) (r : RoomState) (orders : List Order) (n : ℕ) (slots : Slots) (f0 f1 f2 f3 : List FollowUp) : Type 0 where
   pub first : (bits : List ℕ) → map (task_of bits) f0 ≡ filter_map (task_after w.setup r) orders
   pub count : n ≡ length w.setup.table.endpoints
-  pub says_due : is_due ≡ is_report_due w r
+  pub done : slots.done ≡ w.round.done
+  pub come : slots.come ≡ slots_by w r
   pub pulses : AddsTasks f0 f1 (λ bits. tasks_due due.Pulse r n)
   pub expiring : AddsTasks f1 f2 (λ bits. if w.setup.request_ms == 0 then [] else tasks_due due.Expire r n)
-  pub reporting : AddsTasks f2 f3
-      (λ bits. if is_due then tasks_due due.Report r n ++ flat_map (leg_report w.setup.table r) (enumerate_from 0 w.setup.table.legs) else [])
+  pub reporting : AddsTasks f2 f3 (λ bits. reports_due w.setup.table r (comes_between w.setup slots.done slots.come) n)
 
-follows_tick : (w : WorldState) (r : RoomState) (n : ℕ) (is_due : Bool) (f0 f1 f2 f3 : List FollowUp) (bits : List ℕ) (orders : List Order)
-    → FollowsTick w r orders n is_due f0 f1 f2 f3 → map order orders ++ map (task_of bits) f3 ≡ ticked_by w r orders
-follows_tick w r n is_due f0 f1 f2 f3 bits orders f =
+follows_tick : (w : WorldState) (r : RoomState) (n : ℕ) (slots : Slots) (f0 f1 f2 f3 : List FollowUp) (bits : List ℕ) (orders : List Order)
+    → FollowsTick w r orders n slots f0 f1 f2 f3 → map order orders ++ map (task_of bits) f3 ≡ ticked_by w r orders
+follows_tick w r n slots f0 f1 f2 f3 bits orders f =
     let t = w.setup.table in
     let T : List Task = filter_map (task_after w.setup r) orders in
     let E : ℕ → List Task = λ k. if w.setup.request_ms == 0 then [] else tasks_due due.Expire r k in
-    let R : ℕ → Bool → List Task = λ k b. if b then tasks_due due.Report r k ++ flat_map (leg_report t r) (enumerate_from 0 t.legs) else [] in
+    let R : ℕ → ℕ → ℕ → List Task = λ k done come. reports_due t r (comes_between w.setup done come) k in
     let pulses : List Task = map pulse (present_endpoints t r) in
     let all : map (task_of bits) f3 ≡ (T ++ pulses ++ expires w.setup r) ++ reports w r =
     f.reporting bits
-    ∙ ap (λ (l : List Task). l ++ R n is_due)
+    ∙ ap (λ (l : List Task). l ++ R n slots.done slots.come)
     (f.expiring bits
     ∙ ap (λ (l : List Task). l ++ E n) (f.pulses bits ∙ ap (λ (l : List Task). l ++ tasks_due due.Pulse r n) (f.first bits)))
-    ∙ ap₂ (λ (k : ℕ) (b : Bool). (T ++ tasks_due due.Pulse r k ++ E k) ++ R k b) f.count f.says_due in
+    ∙ ap (λ (k : ℕ). (T ++ tasks_due due.Pulse r k ++ E k) ++ R k slots.done slots.come) f.count
+    ∙ ap₂ (λ (done come : ℕ). (T ++ pulses ++ expires w.setup r) ++ R (length t.endpoints) done come) f.done f.come in
     ap (λ (l : List Task). map order orders ++ l) all
     ∙ sym (append_assoc (map order orders) (T ++ pulses ++ expires w.setup r) (reports w r))
     ∙ ap (λ (l : List Task). l ++ reports w r)
     (sym (append_assoc (map order orders) (T ++ pulses) (expires w.setup r))
     ∙ ap (λ (l : List Task). l ++ expires w.setup r) (sym (append_assoc (map order orders) T pulses)))
 
-pub ticks_so : (w : WorldState) (moment : ℕ) (outs : List Out) (room : RoomState) (before after : List Order) (n : ℕ) (is_due : Bool)
-    (f0 f1 f2 f3 : List FollowUp) (bits : List ℕ) (tasks : List Task) (reported : ℕ) → is_busy w ≡ false → w.lost < 2 ^ 64
+pub ticks_so : (w : WorldState) (moment : ℕ) (outs : List Out) (room : RoomState) (before after : List Order) (n : ℕ) (slots : Slots)
+    (f0 f1 f2 f3 : List FollowUp) (bits : List ℕ) (tasks : List Task) (round : Round) → is_busy w ≡ false → w.lost < 2 ^ 64
     → w.tmmbns < 2 ^ 64 → before ≡ [] → room ≡ (tick_step w.room moment).room → after ≡ before ++ (tick_step w.room moment).orders
-    → FollowsTick w room after n is_due f0 f1 f2 f3 → tasks ≡ map order after ++ map (task_of bits) f3
-    → reported ≡ (if is_due then room.moment else w.reported)
-    → Leaves (λ h. h ≡ ticking w moment) w outs (taken_in w room tasks reported w.tmmbns) outs
-ticks_so w moment outs room before after n is_due f0 f1 f2 f3 bits tasks reported h lost tmmbns eb er eo f et eq =
+    → FollowsTick w room after n slots f0 f1 f2 f3 → tasks ≡ map order after ++ map (task_of bits) f3
+    → round ≡ round_with w.setup room.moment w.round slots.come
+    → Leaves (λ h. h ≡ ticking w moment) w outs (taken_in w room tasks round w.tmmbns) outs
+ticks_so w moment outs room before after n slots f0 f1 f2 f3 bits tasks round h lost tmmbns eb er eo f et eq =
     let s = tick_step w.room moment in
     let orders : after ≡ s.orders = eo ∙ ap (λ (l : List Order). l ++ s.orders) eb in
     let here : tasks ≡ ticked_by w s.room s.orders =
-    et ∙ follows_tick w room n is_due f0 f1 f2 f3 bits after f ∙ ap₂ (λ (r : RoomState) (o : List Order). ticked_by w r o) er orders in
-    let then_at : reported ≡ reported_by w s.room =
-    eq ∙ ap (λ (b : Bool). if b then room.moment else w.reported) f.says_due ∙ ap (λ (r : RoomState). reported_by w r) er in
-    ticks w moment outs room tasks reported h lost tmmbns er here then_at
+    et ∙ follows_tick w room n slots f0 f1 f2 f3 bits after f ∙ ap₂ (λ (r : RoomState) (o : List Order). ticked_by w r o) er orders in
+    let then_at : round ≡ round_after w s.room =
+    eq ∙ ap (λ (k : ℕ). round_with w.setup room.moment w.round k) f.come ∙ ap (λ (r : RoomState). round_after w r) er in
+    ticks w moment outs room tasks round h lost tmmbns er here then_at
 
 -- ---- what follows from the orders
 
@@ -106,7 +107,7 @@ pub medias : (w : WorldState) (moment endpoint : ℕ) (bytes bits : List ℕ) (s
     → AddsTasks f1 f2 (λ bytes. map (λ k. push k (Packet endpoint bytes)) (filter (is_served_by w.setup.table room endpoint) (numbers_below n)))
     → room' ≡ after_packet room endpoint seq timestamp → tasks ≡ map order after ++ map (task_of bits) f2
     → Leaves (λ h. h ≡ hearing w moment endpoint bytes (Ok (media ssrc seq timestamp octets))) w outs
-    (taken_in w room' tasks w.reported w.tmmbns) all
+    (taken_in w room' tasks w.round w.tmmbns) all
 medias w moment endpoint bytes bits ssrc seq timestamp octets n outs all before after room room' f0 f1 f2 tasks ea h lost tmmbns a eb ed en e0 e1 e2 er' et =
     let (s, is, er, eo) = accepted w.room before (hear_step w.room moment endpoint ssrc) room after a in
     let said : Said = media ssrc seq timestamp octets in
@@ -126,7 +127,7 @@ medias w moment endpoint bytes bits ssrc seq timestamp octets n outs all before 
     record {
       happening = hearing_by w moment endpoint bytes said (Ok s);
       allowed = ap (hearing_by w moment endpoint bytes said) (sym is);
-      leads = took w [] calls (map order s.orders ++ (tasks_after w.setup s ++ jobs_of t s.room endpoint bytes said)) w.reported 0 room' tasks w.tmmbns h lost here made
+      leads = took w [] calls (map order s.orders ++ (tasks_after w.setup s ++ jobs_of t s.room endpoint bytes said)) w.round 0 room' tasks w.tmmbns h lost here made
           (uncounted w.tmmbns tmmbns);
       given = ea ∙ sym (append-nil outs);
     }
@@ -147,7 +148,7 @@ pub controls : (w : WorldState) (moment endpoint : ℕ) (bytes bits : List ℕ) 
     → all ≡ outs ++ flat_map (λ a. refusal_for (task_for w.setup.table room endpoint a)) asks'
     → room' ≡ room_with_report room endpoint noting → tasks ≡ map order after ++ map (task_of bits) f2 → count ≡ capped_count w.tmmbns tmmbns
     → Leaves (λ h. h ≡ hearing w moment endpoint bytes (Ok (control speaker reports tmmbns asks))) w outs
-    (taken_in w room' tasks w.reported count) all
+    (taken_in w room' tasks w.round count) all
 controls w moment endpoint bytes bits speaker reports tmmbns asks asks' outs all before after room room' f0 f1 f2 tasks count noting h lost a eb en ea e0 e1 e2 eout er' et ec =
     let (s, is, er, eo) = accepted w.room before (hear_step w.room moment endpoint speaker) room after a in
     let said : Said = control speaker reports tmmbns asks in
@@ -169,7 +170,7 @@ controls w moment endpoint bytes bits speaker reports tmmbns asks asks' outs all
     record {
       happening = hearing_by w moment endpoint bytes said (Ok s);
       allowed = ap (hearing_by w moment endpoint bytes said) (sym is);
-      leads = took w (refusals_of t s.room endpoint said) calls (map order s.orders ++ (tasks_after w.setup s ++ jobs_of t s.room endpoint bytes said)) w.reported tmmbns
+      leads = took w (refusals_of t s.room endpoint said) calls (map order s.orders ++ (tasks_after w.setup s ++ jobs_of t s.room endpoint bytes said)) w.round tmmbns
           room' tasks count h lost here made ec;
       given = told;
     }
@@ -180,7 +181,7 @@ pub goodbyes : (w : WorldState) (moment endpoint : ℕ) (bytes bits : List ℕ) 
     (f0 f1 : List FollowUp) (tasks : List Task) → all ≡ outs → is_busy w ≡ false → w.lost < 2 ^ 64 → w.tmmbns < 2 ^ 64
     → Answers w.room before (bye_step w.room moment endpoint) (Ok tt) room after → before ≡ [] → f0 ≡ []
     → AddsTasks f0 f1 (λ bytes. filter_map (task_after w.setup room) after) → tasks ≡ map order after ++ map (task_of bits) f1
-    → Leaves (λ h. h ≡ hearing w moment endpoint bytes (Ok leaves)) w outs (taken_in w room tasks w.reported w.tmmbns) all
+    → Leaves (λ h. h ≡ hearing w moment endpoint bytes (Ok leaves)) w outs (taken_in w room tasks w.round w.tmmbns) all
 goodbyes w moment endpoint bytes bits outs all before after room f0 f1 tasks ea h lost tmmbns a eb e0 e1 et =
     let (s, is, er, eo) = accepted w.room before (bye_step w.room moment endpoint) room after a in
     let orders : after ≡ s.orders = eo ∙ ap (λ (l : List Order). l ++ s.orders) eb in
@@ -193,7 +194,7 @@ goodbyes w moment endpoint bytes bits outs all before after room f0 f1 tasks ea 
     record {
       happening = hearing_by w moment endpoint bytes leaves (Ok s);
       allowed = ap (hearing_by w moment endpoint bytes leaves) (sym is);
-      leads = took w [] calls (map order s.orders ++ (tasks_after w.setup s ++ [])) w.reported 0 room tasks w.tmmbns h lost here made
+      leads = took w [] calls (map order s.orders ++ (tasks_after w.setup s ++ [])) w.round 0 room tasks w.tmmbns h lost here made
           (uncounted w.tmmbns tmmbns);
       given = ea ∙ sym (append-nil outs);
     }
@@ -204,7 +205,7 @@ pub selects : (w : WorldState) (moment leg : ℕ) (on : Bool) (bits : List ℕ) 
     (f0 f1 : List FollowUp) (tasks : List Task) → all ≡ outs → is_busy w ≡ false → w.lost < 2 ^ 64 → w.tmmbns < 2 ^ 64
     → Answers w.room before (select_step w.room moment leg on) (Ok tt) room after → before ≡ [] → f0 ≡ []
     → AddsTasks f0 f1 (λ bytes. filter_map (task_after w.setup room) after) → tasks ≡ map order after ++ map (task_of bits) f1
-    → Leaves (λ h. h ≡ selecting w moment leg on) w outs (taken_in w room tasks w.reported w.tmmbns) all
+    → Leaves (λ h. h ≡ selecting w moment leg on) w outs (taken_in w room tasks w.round w.tmmbns) all
 selects w moment leg on bits outs all before after room f0 f1 tasks ea h lost tmmbns a eb e0 e1 et =
     let (s, is, er, eo) = accepted w.room before (select_step w.room moment leg on) room after a in
     let orders : after ≡ s.orders = eo ∙ ap (λ (l : List Order). l ++ s.orders) eb in
@@ -215,7 +216,7 @@ selects w moment leg on bits outs all before after room f0 f1 tasks ea h lost tm
     record {
       happening = selecting_by w moment leg on (Ok s);
       allowed = ap (selecting_by w moment leg on) (sym is);
-      leads = took w [] calls (map order s.orders ++ tasks_after w.setup s) w.reported 0 room tasks w.tmmbns h lost here made
+      leads = took w [] calls (map order s.orders ++ tasks_after w.setup s) w.round 0 room tasks w.tmmbns h lost here made
           (uncounted w.tmmbns tmmbns);
       given = ea ∙ sym (append-nil outs);
     }
@@ -304,7 +305,7 @@ takes_refusal w moment t refusal bytes outs all idles lost tmmbns is h given =
     record {
       happening = giving w (Refused refusal ∷ []);
       allowed = refl;
-      leads = took w (Refused refusal ∷ []) [] [] w.reported 0 w.room w.tasks w.tmmbns idles lost refl (idle w idles) (uncounted w.tmmbns tmmbns);
+      leads = took w (Refused refusal ∷ []) [] [] w.round 0 w.room w.tasks w.tmmbns idles lost refl (idle w idles) (uncounted w.tmmbns tmmbns);
       given = given;
     }
 

@@ -11,6 +11,7 @@ use Rattle.members.specs.declared.order.Order.{Order}
 use Rattle.members.specs.Room.{RoomState, Step, Answers, tick_step}
 use Rattle.members.specs.Calls.{Call as RoomCall, Tick, room_after}
 use Rattle.events.specs.declared.output.Out.{Out}
+use Rattle.core_steps.specs.declared.rounds.Round.{Round}
 use Rattle.core_steps.specs.declared.tasks.FollowUp.{FollowUp}
 use Rattle.core_steps.specs.FollowUps.{AddsTasks, IsTask}
 use Rattle.core_steps.specs.Happening.{Happening, giving, capped_count, world_after}
@@ -51,21 +52,21 @@ idle w h = idle_parts w.pending w.tasks h
 -- ---- a happening that takes something in
 
 -- these calls of the room, and these tasks
-abbrev pub taking_in : WorldState → List Out → List RoomCall → List Task → ℕ → ℕ → Happening
-taking_in w outs calls made reported more =
-    record (giving w outs) { calls = calls; made = made; reported = reported; tmmbns = more }
+abbrev pub taking_in : WorldState → List Out → List RoomCall → List Task → Round → ℕ → Happening
+taking_in w outs calls made round more =
+    record (giving w outs) { calls = calls; made = made; round = round; tmmbns = more }
 
-abbrev pub taken_in : WorldState → RoomState → List Task → ℕ → ℕ → WorldState
-taken_in w room tasks reported tmmbns = record w { room = room; tasks = tasks; reported = reported; tmmbns = tmmbns }
+abbrev pub taken_in : WorldState → RoomState → List Task → Round → ℕ → WorldState
+taken_in w room tasks round tmmbns = record w { room = room; tasks = tasks; round = round; tmmbns = tmmbns }
 
 pub uncounted : (n : ℕ) → n < 2 ^ 64 → n ≡ capped_count n 0
 uncounted n h = omega arith
 
-pub took : (w : WorldState) (outs : List Out) (calls : List RoomCall) (made : List Task) (reported more : ℕ)
+pub took : (w : WorldState) (outs : List Out) (calls : List RoomCall) (made : List Task) (round : Round) (more : ℕ)
     (room : RoomState) (tasks : List Task) (tmmbns : ℕ) → is_busy w ≡ false → w.lost < 2 ^ 64
     → room ≡ room_after w.room calls → tasks ≡ made → tmmbns ≡ capped_count w.tmmbns more
-    → taken_in w room tasks reported tmmbns ≡ world_after w (taking_in w outs calls made reported more)
-took w outs calls made reported more room tasks tmmbns h lost er et em =
+    → taken_in w room tasks round tmmbns ≡ world_after w (taking_in w outs calls made round more)
+took w outs calls made round more room tasks tmmbns h lost er et em =
     let e : tasks ≡ drop 0 w.tasks ++ made = et ∙ ap (λ (l : List Task). l ++ made) (sym (idle w h)) in
     let el : w.lost ≡ capped_count w.lost 0 = uncounted w.lost lost in
     λ k. record {
@@ -76,23 +77,23 @@ took w outs calls made reported more room tasks tmmbns h lost er et em =
       desks = w.desks;
       rows = w.rows;
       workers = w.workers;
-      reported = reported;
+      round = round;
       lost = el k;
       tmmbns = em k;
     }
 
 -- ---- a moment
 
-pub ticks : (w : WorldState) (moment : ℕ) (outs : List Out) (room : RoomState) (tasks : List Task) (reported : ℕ)
+pub ticks : (w : WorldState) (moment : ℕ) (outs : List Out) (room : RoomState) (tasks : List Task) (round : Round)
     → is_busy w ≡ false → w.lost < 2 ^ 64 → w.tmmbns < 2 ^ 64 → room ≡ (tick_step w.room moment).room
-    → tasks ≡ (ticking w moment).made → reported ≡ (ticking w moment).reported
-    → Leaves (λ h. h ≡ ticking w moment) w outs (taken_in w room tasks reported w.tmmbns) outs
-ticks w moment outs room tasks reported h lost tmmbns er et eq =
+    → tasks ≡ (ticking w moment).made → round ≡ (ticking w moment).round
+    → Leaves (λ h. h ≡ ticking w moment) w outs (taken_in w room tasks round w.tmmbns) outs
+ticks w moment outs room tasks round h lost tmmbns er et eq =
     record {
       happening = ticking w moment;
       allowed = refl;
-      leads = ap (λ (n : ℕ). taken_in w room tasks n w.tmmbns) eq
-          ∙ took w [] (Tick moment ∷ []) (ticking w moment).made (ticking w moment).reported 0 room tasks w.tmmbns h lost er et
+      leads = ap (λ (n : Round). taken_in w room tasks n w.tmmbns) eq
+          ∙ took w [] (Tick moment ∷ []) (ticking w moment).made (ticking w moment).round 0 room tasks w.tmmbns h lost er et
           (uncounted w.tmmbns tmmbns);
       given = sym (append-nil outs);
     }

@@ -44,7 +44,7 @@ with_parts w room tasks pending desks rows workers lost tmmbns = record {
   desks = desks;
   rows = rows;
   workers = workers;
-  reported = w.reported;
+  round = w.round;
   lost = lost;
   tmmbns = tmmbns;
 }

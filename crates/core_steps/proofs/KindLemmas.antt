@@ -1,15 +1,15 @@
 -- What every happening is like, by one case analysis of the rule.
 use Rattle.std.proofs.Common.{◌≡◌, ℕ, List, [], ◌∷◌, ◌++◌, length, drop, Bool, true, false, Option, None, Some, Result, Ok, Err, ◌⊎◌, ◌+◌, ◌≤◌, refl, ap, sym, ◌∙◌, subst, append-nil, inl, inr, arith}
-use Rattle.std.proofs.lemmas.Bool.{leb-true}
+use Rattle.std.proofs.lemmas.Bool.{cond-false, leb-true}
 use Rattle.std.proofs.lemmas.Bool.Decides.{leb_tells}
 use Rattle.std.proofs.lemmas.List.{map-id}
-use Rattle.std.specs.Prelude.{slice_get, MatchBool, nat_le, fold, if◌then◌else◌}
+use Rattle.std.specs.Prelude.{slice_get, MatchBool, filter, nat_le, fold, if◌then◌else◌}
 use Rattle.std.specs.List.{AllByRecursion, flat_map}
 use Rattle.members.specs.declared.order.Order.{Order}
 use Rattle.members.specs.declared.order.Order.TheVariants.{Arrive, Depart, Route}
 use Rattle.settings.specs.declared.fault.RoomFault.{RoomFault}
 use Rattle.members.specs.Room.{Step, select_step, tick_step}
-use Rattle.members.specs.Calls.{step_of, room_of, orders_of, orders_after}
+use Rattle.members.specs.Calls.{step_of, room_after, room_of, orders_of, orders_after}
 use Rattle.desk.specs.declared.call.Call.{Call as DeskCall}
 use Rattle.desk.specs.declared.call.Call.TheVariants.{Time}
 use Rattle.desk.specs.declared.call.Signal.TheVariants as signal
@@ -24,12 +24,14 @@ use Rattle.events.specs.declared.output.Out.TheVariants.{Busy, Lost}
 use Rattle.core_steps.specs.declared.ring.TheConstants.{JOB_LIMIT}
 use Rattle.core_steps.specs.Happening.{Happening, RecordedCall, GivenUp, Worked, giving}
 use Rattle.core_steps.specs.Laws.{TellsLegalDesk, IsGivenUpFull}
-use Rattle.core_steps.specs.Hearing.{IsHearing, hearing, hearing_by, ticking, room_call, receptions, selecting_by, jobs_of, tasks_after}
-use Rattle.datagram.specs.Saying.{Said}
+use Rattle.core_steps.specs.Hearing.{IsHearing, hearing, hearing_by, ticking, room_call, receptions, selecting_by, jobs_of, reports, round_after, tasks_after}
+use Rattle.datagram.specs.Saying.{Said, media, leaves, control}
 use Rattle.legs.specs.Legs.{legs_after}
+use Rattle.core_steps.specs.Reports.{MakesDueReports, is_report, is_tick}
 use Rattle.core_steps.specs.Rule.{Does, DoesNext, DoesTask, DoesJob, Works, WorksOn, is_busy, Replies, IngressAsks, OrderAsks, JobAsks, WorkerAsks, ingress_asked, worker_asked, pushing, putting, done_task, taking, working, with_hand, forwarding, hand_of}
 use Rattle.core_steps.specs.World.{WorldState, WorkerState, Task, order, push, pulse, expire, report, Hand, free, doing, telling}
 use Rattle.desk_calls.specs.Notification.{pending_of, Pending}
+use Rattle.core_steps.proofs.DueLemmas.{all_ticked, none_selected, none_taken}
 use Rattle.core_steps.proofs.CauseLemmas.{AsksAsDone, AsksThere, AskedByJob, Causes, asked_by_task, finished_in, in_hand, orders_in, orders_first, orders_ticked, none_after, none_append, none_heard, none_received}
 
 -- What was done at a worker: it is there, it took its oldest jobs, and there was room for those that it was given; it finished what
@@ -49,8 +51,8 @@ IsAtOne w (d ∷ []) = IsAt w d
 IsAtOne w (d ∷ (e ∷ ds)) = ⊥
 
 -- It did nothing that waits, or the first task that waits; the desks that it asked are legal, and what it tells is announced; it
--- worked at one worker at most; it gave up jobs of full rings alone; the orders that it made are those of the room's calls; and it
--- asked the desk that what it did asks.
+-- worked at one worker at most; it gave up jobs of full rings alone; the orders that it made are those of the room's calls, and the
+-- reports those that are due; and it asked the desk that what it did asks.
 pub record IsKind (w : WorldState) (h : Happening) : Type 0 where
   pub did : h.did ++ drop (length h.did) w.tasks ≡ w.tasks
   pub asked : AllByRecursion TellsLegalDesk h.asked
@@ -58,6 +60,14 @@ pub record IsKind (w : WorldState) (h : Happening) : Type 0 where
   pub given_up : AllByRecursion (IsGivenUpFull w) h.given_up
   pub orders : orders_in h.made ≡ orders_after w.room h.calls
   pub asks : AsksAsDone w h
+  pub reports : MakesDueReports w h
+
+-- no report was made, and no moment taken in
+untold : (w : WorldState) (h : Happening) → is_tick h.calls ≡ false → h.round ≡ w.round → filter is_report h.made ≡ [] → MakesDueReports w h
+untold w h untick same none = record {
+  round = same ∙ sym (cond-false (is_tick h.calls) (round_after w (room_after w.room h.calls)) w.round untick);
+  reports = none ∙ sym (cond-false (is_tick h.calls) (reports w (room_after w.room h.calls)) [] untick);
+}
 
 -- nothing was done, so that nobody was asked
 idle_asks : (w : WorldState) (h : Happening) → h.did ≡ [] → h.asked ≡ [] → h.unrecorded ≡ [] → h.worked ≡ [] → AsksAsDone w h
@@ -70,18 +80,19 @@ idle_asks w h d a u k = record {
 
 -- nothing was done but given out, or taken in
 idle_kind : (w : WorldState) (h : Happening) → h.did ≡ [] → h.asked ≡ [] → h.unrecorded ≡ [] → h.worked ≡ [] → h.given_up ≡ []
-    → orders_in h.made ≡ orders_after w.room h.calls → IsKind w h
-idle_kind w h d a u k g o = record {
+    → orders_in h.made ≡ orders_after w.room h.calls → MakesDueReports w h → IsKind w h
+idle_kind w h d a u k g o told = record {
   did = subst (λ (ts : List Task). ts ++ drop (length ts) w.tasks ≡ w.tasks) (sym d) refl;
   asked = subst (λ (xs : List RecordedCall). AllByRecursion TellsLegalDesk xs) (sym a) tt;
   worked = subst (λ (ds : List Worked). IsAtOne w ds) (sym k) tt;
   given_up = subst (λ (gs : List GivenUp). AllByRecursion (IsGivenUpFull w) gs) (sym g) tt;
   orders = o;
   asks = idle_asks w h d a u k;
+  reports = told;
 }
 
 giving_kind : (w : WorldState) (outs : List Out) → IsKind w (giving w outs)
-giving_kind w outs = idle_kind w (giving w outs) refl refl refl refl refl refl
+giving_kind w outs = idle_kind w (giving w outs) refl refl refl refl refl refl (untold w (giving w outs) refl refl refl)
 
 first_done : (w : WorldState) (t : Task) (ts : List Task) → w.tasks ≡ t ∷ ts → t ∷ drop 1 w.tasks ≡ w.tasks
 first_done w t ts e = subst (λ (xs : List Task). t ∷ drop 1 xs ≡ xs) (sym e) refl
@@ -89,28 +100,34 @@ first_done w t ts e = subst (λ (xs : List Task). t ∷ drop 1 xs ≡ xs) (sym e
 -- the first task was done, and these desks were asked
 task_kind : (w : WorldState) (t : Task) (ts : List Task) (h : Happening) → w.tasks ≡ t ∷ ts → h.did ≡ t ∷ []
     → AllByRecursion TellsLegalDesk h.asked → h.worked ≡ [] → h.given_up ≡ [] → orders_in h.made ≡ orders_after w.room h.calls
-    → AsksAsDone w h → IsKind w h
-task_kind w t ts h e d a k g o q = record {
+    → AsksAsDone w h → MakesDueReports w h → IsKind w h
+task_kind w t ts h e d a k g o q told = record {
   did = subst (λ (xs : List Task). xs ++ drop (length xs) w.tasks ≡ w.tasks) (sym d) (first_done w t ts e);
   asked = a;
   worked = subst (λ (ds : List Worked). IsAtOne w ds) (sym k) tt;
   given_up = subst (λ (gs : List GivenUp). AllByRecursion (IsGivenUpFull w) gs) (sym g) tt;
   orders = o;
   asks = q;
+  reports = told;
 }
 
 -- a task was done that asks nobody
 quiet_task_kind : (w : WorldState) (t : Task) (ts : List Task) (h : Happening) → w.tasks ≡ t ∷ ts → h.did ≡ t ∷ [] → h.asked ≡ []
     → h.unrecorded ≡ [] → h.worked ≡ [] → h.given_up ≡ [] → orders_in h.made ≡ orders_after w.room h.calls
-    → Causes w h.did (finished_in h) None → IsKind w h
-quiet_task_kind w t ts h e d a u k g o c =
+    → Causes w h.did (finished_in h) None → MakesDueReports w h → IsKind w h
+quiet_task_kind w t ts h e d a u k g o c told =
     task_kind w t ts h e d (subst (λ (xs : List RecordedCall). AllByRecursion TellsLegalDesk xs) (sym a) tt) k g o
-    (record { who = None; cause = c; asks = record { asked = a; unrecorded = u } })
+    (record { who = None; cause = c; asks = record { asked = a; unrecorded = u } }) told
 
 along : (w : WorldState) (h k : Happening) → h ≡ k → IsKind w k → IsKind w h
 along w h k e i = subst (λ (x : Happening). IsKind w x) (sym e) i
 
 -- ---- what is taken in
+
+no_tick : (moment endpoint : ℕ) (said : Said) → is_tick (room_call moment endpoint said ∷ receptions endpoint said) ≡ false
+no_tick moment endpoint (media ssrc seq timestamp octets) = refl
+no_tick moment endpoint leaves = refl
+no_tick moment endpoint (control speaker reports tmmbns asks) = refl
 
 hearing_kind_by : (w : WorldState) (moment endpoint : ℕ) (bytes : List ℕ) (said : Said) (r : Result Step RoomFault)
     → step_of w.room (room_call moment endpoint said) ≡ r → IsKind w (hearing_by w moment endpoint bytes said r)
@@ -124,6 +141,7 @@ hearing_kind_by w moment endpoint bytes said (Ok step) e =
     ∙ ap (λ (os : List Order). step.orders ++ os) (none_received step.room endpoint said)
     )
     )
+    (untold w _ (no_tick moment endpoint said) refl (none_taken w.setup step endpoint bytes said))
 hearing_kind_by w moment endpoint bytes said (Err fault) e = giving_kind w _
 
 hearing_kind : (w : WorldState) (moment endpoint : ℕ) (bytes : List ℕ) (said : Result Said Refusal)
@@ -135,8 +153,7 @@ hearing_kind w moment endpoint bytes (Err refusal) = giving_kind w _
 ticking_kind : (w : WorldState) (moment : ℕ) → IsKind w (ticking w moment)
 ticking_kind w moment =
     let step : Step = tick_step w.room moment in
-    idle_kind w (ticking w moment) refl refl refl refl refl
-    (orders_ticked w step)
+    idle_kind w (ticking w moment) refl refl refl refl refl (orders_ticked w step) (record { round = refl; reports = all_ticked w step })
 
 selecting_kind : (w : WorldState) (moment leg : ℕ) (on : Bool) (r : Result Step RoomFault) → select_step w.room moment leg on ≡ r
     → IsKind w (selecting_by w moment leg on r)
@@ -145,6 +162,7 @@ selecting_kind w moment leg on (Ok step) e =
     orders_first step.orders (tasks_after w.setup step) (none_after w.setup step)
     ∙ sym (ap (λ (x : Result Step RoomFault). orders_of x ++ []) e)
     )
+    (untold w _ refl refl (none_selected w.setup step))
 selecting_kind w moment leg on (Err fault) e = giving_kind w _
 
 -- ---- the ingress
@@ -168,9 +186,9 @@ module _ (w : WorldState) (t : Task) (ts : List Task) (p : ℕ) (call : DeskCall
 
   reply_kind : (d : DeskState) (reply : Option RecordedCall) → w.tasks ≡ t ∷ ts → Some (p, call) ≡ asked_by_task w t
       → slice_get w.desks p ≡ Some d → Replies p d call reply → IsKind w (ingress_asked w t p reply)
-  reply_kind d None e c f r = task_kind w t ts _ e refl tt refl refl refl (reply_asks d None c f r)
+  reply_kind d None e c f r = task_kind w t ts _ e refl tt refl refl refl (reply_asks d None c f r) (untold w _ refl refl refl)
   reply_kind d (Some a) e c f r =
-      task_kind w t ts _ e refl (record { legal = r.legal; announced = r.effect.announced }, tt) refl refl refl (reply_asks d (Some a) c f r)
+      task_kind w t ts _ e refl (record { legal = r.legal; announced = r.effect.announced }, tt) refl refl refl (reply_asks d (Some a) c f r) (untold w _ refl refl refl)
 
   asks_kind : (d : Option DeskState) (h : Happening) → w.tasks ≡ t ∷ ts → Some (p, call) ≡ asked_by_task w t → slice_get w.desks p ≡ d
       → IngressAsks w t p call d h → IsKind w h
@@ -179,12 +197,12 @@ module _ (w : WorldState) (t : Task) (ts : List Task) (p : ℕ) (call : DeskCall
         who = Some (p, call);
         cause = c;
         asks = subst (λ (x : Option DeskState). AsksThere p call x (done_task w t [])) (sym f) (record { asked = refl; unrecorded = refl });
-      }))
+      }) (untold w _ refl refl refl))
   asks_kind (Some d) h e c f r = along w h _ r.2 (reply_kind d r.0 e c f r.1)
 
 order_kind : (w : WorldState) (t : Task) (ts : List Task) (asked : Option (ℕ × DeskCall)) (h : Happening)
     → w.tasks ≡ t ∷ ts → asked ≡ asked_by_task w t → OrderAsks w t asked h → IsKind w h
-order_kind w t ts None h e c r = along w h _ r (quiet_task_kind w t ts _ e refl refl refl refl refl refl c)
+order_kind w t ts None h e c r = along w h _ r (quiet_task_kind w t ts _ e refl refl refl refl refl refl c (untold w _ refl refl refl))
 order_kind w t ts (Some (p, call)) h e c r = asks_kind w t ts p call (slice_get w.desks p) h e c refl r
 
 -- whichever of two is taken
@@ -207,6 +225,7 @@ given_kind w k job ts s e f full = record {
   given_up = (record { state = s; there = f; full = leb-true JOB_LIMIT (length s.jobs) full }, tt);
   orders = refl;
   asks = record { who = None; cause = refl; asks = record { asked = refl; unrecorded = refl } };
+  reports = untold w _ refl refl refl;
 }
 
 -- there was
@@ -227,27 +246,28 @@ put_kind w k job ts s e f room = record {
   given_up = tt;
   orders = refl;
   asks = record { who = None; cause = refl; asks = record { asked = refl; unrecorded = refl } };
+  reports = untold w _ refl refl refl;
 }
 
 push_kind : (w : WorldState) (k : ℕ) (job : Job) (ts : List Task) (s : Option WorkerState)
     → w.tasks ≡ push k job ∷ ts → slice_get w.workers k ≡ s → IsKind w (pushing w k job s)
-push_kind w k job ts None e f = quiet_task_kind w (push k job) ts _ e refl refl refl refl refl refl refl
+push_kind w k job ts None e f = quiet_task_kind w (push k job) ts _ e refl refl refl refl refl refl refl (untold w _ refl refl refl)
 push_kind w k job ts (Some s) e f =
     either_kind w (nat_le JOB_LIMIT (length s.jobs)) _ _ (given_kind w k job ts s e f) (put_kind w k job ts s e f)
 
 does_task_kind : (w : WorldState) (t : Task) (ts : List Task) (h : Happening) → w.tasks ≡ t ∷ ts → DoesTask w t h → IsKind w h
 does_task_kind w (order (Arrive leg stay)) ts h e r = order_kind w _ ts _ h e refl r
 does_task_kind w (order (Depart leg stay)) ts h e r = order_kind w _ ts _ h e refl r
-does_task_kind w (order (Route leg stay turn on)) ts h e r = along w h _ r (quiet_task_kind w _ ts _ e refl refl refl refl refl refl refl)
+does_task_kind w (order (Route leg stay turn on)) ts h e r = along w h _ r (quiet_task_kind w _ ts _ e refl refl refl refl refl refl refl (untold w _ refl refl refl))
 does_task_kind w (push k job) ts h e r = along w h _ r (push_kind w k job ts (slice_get w.workers k) e refl)
 does_task_kind w (pulse p) ts h e r =
     asks_kind w (pulse p) ts p (Time w.room.moment signal.Tick) (slice_get w.desks p) h e refl refl r
 does_task_kind w (expire p) ts h e r =
     asks_kind w (expire p) ts p (Time w.room.moment signal.Expire) (slice_get w.desks p) h e refl refl r
-does_task_kind w (report p) ts h e r = along w h _ r.does (quiet_task_kind w _ ts _ e refl refl refl refl refl refl refl)
+does_task_kind w (report p) ts h e r = along w h _ r.does (quiet_task_kind w _ ts _ e refl refl refl refl refl refl refl (untold w _ refl refl refl))
 
 next_kind : (w : WorldState) (p : Option Pending) (ts : List Task) (h : Happening) → w.tasks ≡ ts → DoesNext w p ts h → IsKind w h
-next_kind w (Some p) ts h e r = along w h _ r (idle_kind w _ refl refl refl refl refl refl)
+next_kind w (Some p) ts h e r = along w h _ r (idle_kind w _ refl refl refl refl refl refl (untold w _ refl refl refl))
 next_kind w None [] h e r = along w h _ r (giving_kind w _)
 next_kind w None (t ∷ ts) h e r = does_task_kind w t ts h e r
 
@@ -257,8 +277,8 @@ next_kind w None (t ∷ ts) h e r = does_task_kind w t ts h e r
 worker_kind : (w : WorldState) (k : ℕ) (s : WorkerState) (h : Happening) (d : Worked) → slice_get w.workers k ≡ Some s
     → h.did ≡ [] → AllByRecursion TellsLegalDesk h.asked → h.worked ≡ d ∷ [] → d.worker ≡ k → d.taken ≡ [] → d.put ≡ []
     → d.finished ++ in_hand d.hand ≡ in_hand s.hand → d.legs ≡ fold (legs_after w.rows) s.legs d.finished
-    → h.given_up ≡ [] → orders_in h.made ≡ orders_after w.room h.calls → AsksAsDone w h → IsKind w h
-worker_kind w k s h d f n a e at t p hd lg g o q = record {
+    → h.given_up ≡ [] → orders_in h.made ≡ orders_after w.room h.calls → AsksAsDone w h → MakesDueReports w h → IsKind w h
+worker_kind w k s h d f n a e at t p hd lg g o q told = record {
   did = subst (λ (ts : List Task). ts ++ drop (length ts) w.tasks ≡ w.tasks) (sym n) refl;
   asked = a;
   worked = subst (λ (ds : List Worked). IsAtOne w ds) (sym e) (record {
@@ -272,6 +292,7 @@ worker_kind w k s h d f n a e at t p hd lg g o q = record {
   given_up = subst (λ (gs : List GivenUp). AllByRecursion (IsGivenUpFull w) gs) (sym g) tt;
   orders = o;
   asks = q;
+  reports = told;
 }
 
 -- the job in hand, which asks this desk and leaves the legs as they are
@@ -303,10 +324,10 @@ module _ (w : WorldState) (k : ℕ) (s : WorkerState) (job : Job) (f : slice_get
     worker_reply_kind : (d : DeskState) (reply : Option RecordedCall) → slice_get w.desks p ≡ Some d → Replies p d call reply
         → IsKind w (worker_asked w k s job leg p reply)
     worker_reply_kind d None at r =
-        worker_kind w k s _ _ f refl tt refl refl refl refl let_go same refl refl (worker_reply_asks d None at r)
+        worker_kind w k s _ _ f refl tt refl refl refl refl let_go same refl refl (worker_reply_asks d None at r) (untold w _ refl refl refl)
     worker_reply_kind d (Some a) at r =
         worker_kind w k s _ _ f refl (record { legal = r.legal; announced = r.effect.announced }, tt) refl refl refl refl
-        (ap (λ (js : List Job). job ∷ js) (hand_of_reply (pending_of a.publisher leg a.answer a.effect)) ∙ let_go) same refl refl (worker_reply_asks d (Some a) at r)
+        (ap (λ (js : List Job). job ∷ js) (hand_of_reply (pending_of a.publisher leg a.answer a.effect)) ∙ let_go) same refl refl (worker_reply_asks d (Some a) at r) (untold w _ refl refl refl)
 
     worker_asks_kind : (d : Option DeskState) (h : Happening) → slice_get w.desks p ≡ d → WorkerAsks w k s job leg p call d h → IsKind w h
     worker_asks_kind None h at r =
@@ -315,14 +336,14 @@ module _ (w : WorldState) (k : ℕ) (s : WorkerState) (job : Job) (f : slice_get
           cause = c;
           asks = subst (λ (x : Option DeskState). AsksThere p call x (working w (with_hand k s (job ∷ []) free) [])) (sym at)
               (record { asked = refl; unrecorded = refl });
-        }))
+        }) (untold w _ refl refl refl))
     worker_asks_kind (Some d) h at r = along w h _ r.2 (worker_reply_kind d r.0 at r.1)
 
   job_asks_kind : (leg : Option ℕ) (asked : Option (ℕ × DeskCall)) (h : Happening) → AskedByJob w job asked → JobAsks w k s job leg asked h
       → IsKind w h
   job_asks_kind leg None h c r =
       along w h _ r (worker_kind w k s _ _ f refl tt refl refl refl refl let_go same refl refl
-      (record { who = None; cause = c; asks = record { asked = refl; unrecorded = refl } }))
+      (record { who = None; cause = c; asks = record { asked = refl; unrecorded = refl } }) (untold w _ refl refl refl))
   job_asks_kind leg (Some (p, call)) h c r = worker_asks_kind leg p call c (slice_get w.desks p) h refl r
 
 -- the job in hand goes to the legs
@@ -330,7 +351,7 @@ forward_kind : (w : WorldState) (k : ℕ) (s : WorkerState) (job : Job) → slic
     → AskedByJob w job None → IsKind w (forwarding w k s job)
 forward_kind w k s job f held c =
     worker_kind w k s _ _ f refl tt refl refl refl refl (sym (ap in_hand held)) refl refl refl
-    (record { who = None; cause = c; asks = record { asked = refl; unrecorded = refl } })
+    (record { who = None; cause = c; asks = record { asked = refl; unrecorded = refl } }) (untold w _ refl refl refl)
 
 job_kind : (w : WorldState) (k : ℕ) (s : WorkerState) (job : Job) (h : Happening) → slice_get w.workers k ≡ Some s → s.hand ≡ doing job
     → DoesJob w k s job h → IsKind w h
@@ -358,6 +379,7 @@ take_kind w k s job jobs f held e = record {
   given_up = tt;
   orders = refl;
   asks = idle_asks_of;
+  reports = untold w _ refl refl refl;
 }
   where
     idle_asks_of : AsksAsDone w (working w (taking k s job) [])
@@ -367,7 +389,7 @@ works_on_kind : (w : WorldState) (k : ℕ) (s : WorkerState) (hand : Hand) (jobs
     → slice_get w.workers k ≡ Some s → s.hand ≡ hand → s.jobs ≡ jobs → WorksOn w k s hand jobs h → IsKind w h
 works_on_kind w k s (telling p) jobs h f held e r =
     along w h _ r (worker_kind w k s _ _ f refl tt refl refl refl refl (sym (ap in_hand held)) refl refl refl
-    (record { who = None; cause = refl; asks = record { asked = refl; unrecorded = refl } }))
+    (record { who = None; cause = refl; asks = record { asked = refl; unrecorded = refl } }) (untold w _ refl refl refl))
 works_on_kind w k s (doing job) jobs h f held e r = job_kind w k s job h f held r
 works_on_kind w k s free [] h f held e r = along w h _ r (giving_kind w _)
 works_on_kind w k s free (job ∷ jobs) h f held e r = along w h _ r (take_kind w k s job jobs f held e)

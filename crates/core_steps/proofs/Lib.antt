@@ -1,4 +1,7 @@
 pub mod ReportLemmas
+pub mod RoundLemmas
+pub mod DueLemmas
+pub mod EveryRoundLemmas
 pub mod CauseLemmas
 pub mod KindLemmas
 pub mod HistoryLemmas

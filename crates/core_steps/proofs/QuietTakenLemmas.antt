@@ -1,6 +1,6 @@
 -- What a datagram, a moment or a selection that is taken in keeps, for the quiet law.
 use Rattle.std.proofs.Common.{◌≡◌, ℕ, ◌<◌, List, [], ◌∷◌, ◌++◌, map, refl, sym, ap, subst, ◌∙◌, Option, Some, None, Bool, true, false, cond, Result, Ok}
-use Rattle.std.specs.Prelude.{◌==◌, ◌&&◌, flat_map, filter_map}
+use Rattle.std.specs.Prelude.{◌==◌, ◌&&◌, filter, flat_map, filter_map, length}
 use Rattle.std.specs.List.{AllByRecursion, enumerate_from, last_or, cons_option}
 use Rattle.std.specs.Option.{option_map_or}
 use Rattle.settings.specs.declared.fault.RoomFault.{RoomFault}
@@ -10,6 +10,7 @@ use Rattle.members.specs.declared.presence.Endpoint.{Endpoint}
 use Rattle.settings.specs.declared.settings.LegSettings.{LegSettings}
 use Rattle.members.specs.declared.stays.LegStay.{LegStay}
 use Rattle.members.specs.Calls.{Call as RoomCall, Report as SenderReport, step_of, room_after, departures}
+use Rattle.members.specs.Presence.{is_present_at}
 use Rattle.members.specs.Room.{RoomState, Step, reception_at}
 use Rattle.members.specs.Stream.{timestamps_of}
 use Rattle.settings.specs.Settings.{Configuration}
@@ -20,7 +21,7 @@ use Rattle.datagram.specs.declared.reading.Ask.TheVariants.{Rate, Resend as Agai
 use Rattle.events.specs.declared.job.Job.TheVariants.{Packet, Pli, Report as LegReport, Goodbye}
 use Rattle.core_steps.specs.Happening.{RecordedCall}
 use Rattle.datagram.specs.Reads.{asks_of}
-use Rattle.core_steps.specs.Hearing.{leg_stay, owner_of, receptions, serving, jobs_of, task_on, task_for, job_by, present_endpoints, expires, reports, is_report_due, leg_report, is_left, task_after}
+use Rattle.core_steps.specs.Hearing.{leg_stay, owner_of, receptions, serving, jobs_of, task_on, task_for, job_by, present_endpoints, expires, numbers_below, reports, is_report_due, leg_report, leg_report_if, upstream_reports, is_left, task_after}
 use Rattle.datagram.specs.Saying.{Said, media, leaves, control}
 use Rattle.settings.specs.Links.{LinkTable, leg_to, table_of, worker_of}
 use Rattle.core_steps.specs.Quiet.{HeardRate, rate_of, rate_on}
@@ -124,24 +125,31 @@ silent-one c r t q (leg, l) = step (leg_stay q leg == 0)
     step true = silent-none c r
     step false = record { none = tt; placed = (tt, tt); asks = λ n. refl; low = λ n. tt }
 
-silent-legs : (c : Configuration) (r : RoomState) (t : LinkTable) (q : RoomState) (ls : List (ℕ × LegSettings)) → IsSilent c r (flat_map (leg_report t q) ls)
-silent-legs c r t q [] = silent-none c r
-silent-legs c r t q (l ∷ ls) = silent-append c r (leg_report t q l) (flat_map (leg_report t q) ls) (silent-one c r t q l) (silent-legs c r t q ls)
+silent-if-due : (c : Configuration) (r : RoomState) (t : LinkTable) (q : RoomState) (is_due : ℕ → Bool) (l : ℕ × LegSettings)
+    → IsSilent c r (leg_report_if t q is_due l)
+silent-if-due c r t q is_due (leg, l) =
+    silent-if c r (is_due leg) (leg_report t q (leg, l)) [] (silent-one c r t q (leg, l)) (silent-none c r)
+
+silent-legs : (c : Configuration) (r : RoomState) (t : LinkTable) (q : RoomState) (is_due : ℕ → Bool) (ls : List (ℕ × LegSettings))
+    → IsSilent c r (flat_map (leg_report_if t q is_due) ls)
+silent-legs c r t q is_due [] = silent-none c r
+silent-legs c r t q is_due (l ∷ ls) =
+    silent-append c r (leg_report_if t q is_due l) (flat_map (leg_report_if t q is_due) ls) (silent-if-due c r t q is_due l)
+    (silent-legs c r t q is_due ls)
 
 pub silent-moment : (c : Configuration) (w : WorldState) (r : RoomState)
     → IsSilent c r (map pulse (present_endpoints w.setup.table r) ++ (expires w.setup r ++ reports w r))
 silent-moment c w r =
+    let t = w.setup.table in
+    let due : ℕ → Bool = is_report_due w r in
     silent-append c r (map pulse (present_endpoints w.setup.table r)) (expires w.setup r ++ reports w r)
     (silent-pulses c r (present_endpoints w.setup.table r))
     (silent-append c r (expires w.setup r) (reports w r)
     (silent-if c r (w.setup.request_ms == 0) [] (map expire (present_endpoints w.setup.table r)) (silent-none c r)
     (silent-expires c r (present_endpoints w.setup.table r)))
-    (silent-if c r (is_report_due w r)
-    (map report (present_endpoints w.setup.table r) ++ flat_map (leg_report w.setup.table r) (enumerate_from 0 w.setup.table.legs)) []
-    (silent-append c r (map report (present_endpoints w.setup.table r)) (flat_map (leg_report w.setup.table r) (enumerate_from 0 w.setup.table.legs))
-    (silent-reports c r (present_endpoints w.setup.table r))
-    (silent-legs c r w.setup.table r (enumerate_from 0 w.setup.table.legs)))
-    (silent-none c r)))
+    (silent-append c r (upstream_reports r due (length t.endpoints)) (flat_map (leg_report_if t r due) (enumerate_from 0 t.legs))
+    (silent-reports c r (filter (λ e. is_present_at r.endpoints e && due e) (numbers_below (length t.endpoints))))
+    (silent-legs c r t r due (enumerate_from 0 t.legs))))
 
 -- ---- an entry becomes a request, if a stay stands
 

@@ -8,7 +8,7 @@ use Rattle.members.specs.Stream.{IsBlockAnswer}
 use Rattle.core_steps.specs.declared.duties.Duty.{Duty}
 use Rattle.core_steps.specs.declared.duties.Duty.TheVariants.{Order, Push, Pulse, Expire, Report}
 use Rattle.desk_calls.specs.Head.{blocks_of, report_bytes}
-use Rattle.core_steps.specs.Opening.{setup_by}
+use Rattle.core_steps.specs.Opening.{first_round, setup_by}
 use Rattle.core_steps.specs.World.{Task, order, push, pulse, expire, report, WorldState}
 
 -- nobody is present, nothing waits, and nothing was done yet; there are no desks, rows or workers
@@ -21,7 +21,7 @@ new_ingress c = record {
   desks = [];
   rows = [];
   workers = [];
-  reported = 0;
+  round = first_round;
   lost = 0;
   tmmbns = 0;
 }

@@ -8,7 +8,7 @@ use Rattle.core_steps.specs.declared.ticking.Due.TheVariants as due
 use Rattle.core_steps.specs.declared.tasks.FollowUp.{FollowUp}
 use Rattle.core_steps.specs.Hearing.{numbers_below}
 use Rattle.core_steps.specs.Machine.{task_of}
-use Rattle.core_steps.specs.World.{Task, pulse, expire, report}
+use Rattle.core_steps.specs.World.{Task, pulse, expire}
 
 -- the follow-up is this task, whatever bytes the datagram has; or there is neither
 abbrev pub IsTask : Option FollowUp → Option Task → Type 0
@@ -23,7 +23,6 @@ AddsTasks before after tasks =
 abbrev pub task_due : Due → ℕ → Task
 task_due due.Pulse = pulse
 task_due due.Expire = expire
-task_due due.Report = report
 
 -- what is due to those present of so many endpoints
 abbrev pub tasks_due : Due → RoomState → ℕ → List Task

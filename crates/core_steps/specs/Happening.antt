@@ -10,6 +10,7 @@ use Rattle.members.specs.Rows.{row_changed}
 use Rattle.events.specs.declared.job.Job.{Job}
 use Rattle.events.specs.declared.output.Out.{Out}
 use Rattle.legs.specs.declared.leg.LegState.{LegState}
+use Rattle.core_steps.specs.declared.rounds.Round.{Round}
 use Rattle.core_steps.specs.World.{WorldState, WorkerState, Task, Hand, free}
 use Rattle.desk_calls.specs.Notification.{Pending}
 
@@ -39,7 +40,7 @@ pub record GivenUp : Type 0 where
 
 -- What an event did: accepted calls of the room; tasks made, and tasks done; recorded calls of desks, and the publishers whose
 -- desks recorded none since their histories are full; changes of rows; what was done at workers; jobs given up; the
--- notification that waits from then on; the moment of the last reports from then on; TMMBNs heard; and what was given out.
+-- notification that waits from then on; the round of reports from then on; TMMBNs heard; and what was given out.
 pub record Happening : Type 0 where
   pub calls : List RoomCall
   pub made : List Task
@@ -50,7 +51,7 @@ pub record Happening : Type 0 where
   pub worked : List Worked
   pub given_up : List GivenUp
   pub pending : Option Pending
-  pub reported : ℕ
+  pub round : Round
   pub tmmbns : ℕ
   pub outs : List Out
 
@@ -66,7 +67,7 @@ giving w outs = record {
   worked = [];
   given_up = [];
   pending = w.pending;
-  reported = w.reported;
+  round = w.round;
   tmmbns = 0;
   outs = outs;
 }
@@ -99,7 +100,7 @@ world_after w h = record {
   desks = fold desks_by w.desks h.asked;
   rows = fold row_changed w.rows h.changes;
   workers = fold workers_by w.workers h.worked;
-  reported = h.reported;
+  round = h.round;
   lost = capped_count w.lost (length h.given_up);
   tmmbns = capped_count w.tmmbns h.tmmbns;
 }

@@ -1,5 +1,5 @@
 -- What the ingress takes in: a datagram, a moment, a selection.
-use Rattle.std.specs.Prelude.{◌==◌, ◌≡◌, ℕ, ◌-◌, nat_le, not, Bool, false, ◌&&◌, List, [], ◌∷◌, ◌++◌, length, map, filter, replicate, slice_get, Option, None, Some, Result, Ok, Err, if◌then◌else◌}
+use Rattle.std.specs.Prelude.{◌==◌, ◌≡◌, ℕ, ◌-◌, not, Bool, false, ◌&&◌, List, [], ◌∷◌, ◌++◌, length, map, filter, replicate, slice_get, Option, None, Some, Result, Ok, Err, if◌then◌else◌}
 use Rattle.std.specs.Option.{option_map_or}
 use Rattle.std.specs.List.{last_or, list_any, enumerate_from, filter_map, flat_map}
 use Rattle.settings.specs.declared.fault.RoomFault.{RoomFault}
@@ -23,6 +23,8 @@ use Rattle.settings.specs.Links.{LinkTable, legs_of, leg_to, worker_of}
 use Rattle.desk_calls.specs.DeskCalls.{source_of}
 use Rattle.datagram.specs.Reads.{Admission, IsSaidBy, asks_of}
 use Rattle.datagram.specs.Saying.{Said, media, leaves, control, Says}
+use Rattle.core_steps.specs.declared.rounds.Round.{Round}
+use Rattle.core_steps.specs.Rounds.{comes_between, round_with, slots_come}
 use Rattle.core_steps.specs.World.{Setup, Task, order, push, pulse, expire, report, WorldState}
 use Rattle.core_steps.specs.Happening.{Happening, giving}
 
@@ -175,8 +177,18 @@ present_endpoints t r = filter (is_present_at r.endpoints) (numbers_below (lengt
 abbrev pub expires : Setup → RoomState → List Task
 expires s r = if s.request_ms == 0 then [] else map expire (present_endpoints s.table r)
 
-abbrev pub is_report_due : WorldState → RoomState → Bool
-is_report_due w r = nat_le w.setup.report_ms (r.moment - w.reported)
+-- so many slots of the round of reports have come by the room's moment
+abbrev pub slots_by : WorldState → RoomState → ℕ
+slots_by w r = slots_come w.setup (r.moment - w.round.began)
+
+-- The slot of this number came since the last of those that are done.
+abbrev pub is_report_due : WorldState → RoomState → ℕ → Bool
+is_report_due w r n = comes_between w.setup w.round.done (slots_by w r) n
+
+-- a report to each of so many endpoints that is present, if its report is due
+abbrev pub upstream_reports : RoomState → (ℕ → Bool) → ℕ → List Task
+upstream_reports r is_due endpoints =
+    map report (filter (λ e. is_present_at r.endpoints e && is_due e) (numbers_below endpoints))
 
 -- a report for the subscriber of a leg in which a stay stands
 abbrev pub leg_report : LinkTable → RoomState → ℕ × LegSettings → List Task
@@ -185,12 +197,23 @@ leg_report t r (leg, l) =
     else push (worker_of t l)
     (Report leg (leg_stay r leg) (timestamps_of (reception_at r l.publisher).report)) ∷ []
 
+-- the same, if the leg's report is due
+abbrev pub leg_report_if : LinkTable → RoomState → (ℕ → Bool) → ℕ × LegSettings → List Task
+leg_report_if t r is_due (leg, l) = if is_due leg then leg_report t r (leg, l) else []
+
+-- the reports that are due: to those present, then for the legs, each by rising number
+abbrev pub reports_due : LinkTable → RoomState → (ℕ → Bool) → ℕ → List Task
+reports_due t r is_due endpoints =
+    upstream_reports r is_due endpoints
+    ++ flat_map (leg_report_if t r is_due) (enumerate_from 0 t.legs)
+
 abbrev pub reports : WorldState → RoomState → List Task
 reports w r =
-    if is_report_due w r
-    then map report (present_endpoints w.setup.table r)
-    ++ flat_map (leg_report w.setup.table r) (enumerate_from 0 w.setup.table.legs)
-    else []
+    reports_due w.setup.table r (is_report_due w r) (length w.setup.table.endpoints)
+
+-- those whose reports were due are done
+abbrev pub round_after : WorldState → RoomState → Round
+round_after w r = round_with w.setup r.moment w.round (slots_by w r)
 
 abbrev pub ticking_by : WorldState → ℕ → Step → Happening
 ticking_by w moment step = record (giving w []) {
@@ -198,7 +221,7 @@ ticking_by w moment step = record (giving w []) {
   made = map order step.orders ++ tasks_after w.setup step
       ++ map pulse (present_endpoints w.setup.table step.room) ++ expires w.setup step.room
       ++ reports w step.room;
-  reported = if is_report_due w step.room then step.room.moment else w.reported;
+  round = round_after w step.room;
 }
 
 -- A moment is taken in (RFC 7667, section 3.7): all that are overdue leave. Tasks follow: a pulse for the desk

@@ -1,4 +1,5 @@
 pub mod World
+pub mod Rounds
 pub mod Happening
 pub mod Hearing
 pub mod Rule
@@ -20,3 +21,4 @@ pub mod WorkerSteps
 pub mod Duties
 pub mod Quiet
 pub mod Settling
+pub mod Reports

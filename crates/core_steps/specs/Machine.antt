@@ -48,7 +48,8 @@ setup_of s =
       table = s.links;
       unit = s.head;
       request_ms = s.request_ms;
-      report_ms = s.report_ms;
+      report_ms = s.pace.period_ms;
+      report_slots = s.pace.slots;
       rules = s.rules;
     }
 
@@ -70,7 +71,7 @@ whole f rest = record {
   desks = rest.desks;
   rows = rest.rows;
   workers = rest.workers;
-  reported = f.reported;
+  round = f.round;
   lost = rest.lost;
   tmmbns = f.tmmbns;
 }

@@ -7,6 +7,7 @@ use Rattle.desk.specs.Trace.{empty_base}
 use Rattle.members.specs.Rows.{opening_rows}
 use Rattle.settings.specs.Links.{table_of}
 use Rattle.legs.specs.Legs.{new_legs}
+use Rattle.core_steps.specs.declared.rounds.Round.{Round}
 use Rattle.core_steps.specs.World.{Setup, WorkerState, WorldState, free}
 
 abbrev pub setup_by : Configuration → Setup
@@ -15,8 +16,13 @@ setup_by c = record {
   unit = record { ssrc = c.unit_ssrc.0; cname = c.cname };
   request_ms = c.request_ms;
   report_ms = c.report_ms;
+  report_slots = c.report_slots;
   rules = c.rules;
 }
+
+-- the first round of reports begins at moment 0
+abbrev pub first_round : Round
+first_round = record { began = 0; done = 0 }
 
 -- no call was recorded
 pub record IsNewDesk (c : Configuration) (d : DeskState) : Type 0 where
@@ -48,6 +54,6 @@ pub record IsNewWorld (c : Configuration) (w : WorldState) : Type 0 where
   pub rows : w.rows ≡ opening_rows (length c.legs)
   pub worker_count : length w.workers ≡ c.workers
   pub workers : (k : ℕ) (s : WorkerState) → slice_get w.workers k ≡ Some s → IsNewWorker c k s
-  pub reported : w.reported ≡ 0
+  pub round : w.round ≡ first_round
   pub lost : w.lost ≡ 0
   pub tmmbns : w.tmmbns ≡ 0

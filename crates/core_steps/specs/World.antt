@@ -10,14 +10,16 @@ use Rattle.settings.specs.Links.{LinkTable}
 use Rattle.settings.specs.declared.rules.LegRules.{LegRules}
 use Rattle.legs.specs.declared.leg.LegState.{LegState}
 use Rattle.desk_calls.specs.Notification.{Pending}
+use Rattle.core_steps.specs.declared.rounds.Round.{Round}
 
--- what the settings say once and for all: the legs, the unit's own source and name, the times in milliseconds, and what is done of
--- its own accord as legs begin and end
+-- what the settings say once and for all: the legs, the unit's own source and name, the times in milliseconds, the slots of a round
+-- of reports, and what is done of its own accord as legs begin and end
 pub record Setup : Type 0 where
   pub table : LinkTable
   pub unit : Identity
   pub request_ms : ℕ
   pub report_ms : ℕ
+  pub report_slots : ℕ
   pub rules : LegRules
 
 -- what waits for the ingress: an order of the room; a job for a worker; a moment to be told to a publisher's desk, for its PLIs
@@ -42,8 +44,7 @@ pub record WorkerState : Type 0 where
   pub legs : List LegState
 
 -- the room; what waits for the ingress, oldest first, after the notification of its last desk call; the desk of each endpoint;
--- the published row of each leg; the workers; the moment of the last reports; how many jobs were given up, and how many
--- TMMBNs were heard
+-- the published row of each leg; the workers; the round of reports; how many jobs were given up, and how many TMMBNs were heard
 pub record WorldState : Type 0 where
   pub setup : Setup
   pub room : RoomState
@@ -52,6 +53,6 @@ pub record WorldState : Type 0 where
   pub desks : List DeskState
   pub rows : List Row
   pub workers : List WorkerState
-  pub reported : ℕ
+  pub round : Round
   pub lost : ℕ
   pub tmmbns : ℕ

@@ -5,6 +5,7 @@ ghost use Rattle.core_steps.specs.Duties.{new_ingress};
 ghost use Rattle.core_steps.specs.Machine.{setup_of};
 ghost use Rattle.core_steps.specs.Opening.{setup_by};
 
+use crate::rounds::{Pace, Round};
 use crate::tasks::Tasks;
 use desk_calls::Head;
 use legs::Plan;
@@ -21,8 +22,7 @@ pub(crate) struct Front {
     pub(crate) setup: Setup,
     pub(crate) room: Room,
     pub(crate) tasks: Tasks,
-    /// The moment of the last reports; 0 before any.
-    pub(crate) reported: u64,
+    pub(crate) round: Round,
     /// TMMBNs heard.
     pub(crate) tmmbns: u64,
     /// Where a job is planned; empty between events.
@@ -36,8 +36,19 @@ pub(crate) struct Setup {
     pub(crate) head: Head,
     /// 0 if requests never grow too old.
     pub(crate) request_ms: u64,
-    pub(crate) report_ms: u64,
+    pub(crate) pace: Pace,
     pub(crate) rules: LegRules,
+}
+
+/// How reports go out by these settings.
+fn pace_of(settings: &Settings) -> Pace
+    ensures period { result.period_ms ≡ settings.now.report_ms }
+    ensures slots { result.slots ≡ settings.now.report_slots }
+{
+    Pace {
+        period_ms: settings.report_ms(),
+        slots: settings.report_slots(),
+    }
 }
 
 impl Setup {
@@ -49,7 +60,7 @@ impl Setup {
             links: Links::new(alloc, settings)?,
             head: Head::new(alloc, settings.unit_ssrc(), settings.cname())?,
             request_ms: settings.request_ms(),
-            report_ms: settings.report_ms(),
+            pace: pace_of(settings),
             rules: settings.rules(),
         })
     }
@@ -70,7 +81,7 @@ impl Front {
             setup,
             room,
             tasks: Tasks::new(alloc),
-            reported: 0,
+            round: Round { began: 0, done: 0 },
             tmmbns: 0,
             plan: Plan::new(alloc),
         })

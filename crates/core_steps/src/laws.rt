@@ -2,6 +2,7 @@
 
 ghost use Rattle.std.specs.Prelude.{◌≡◌, ◌++◌, ℕ, List, fold};
 ghost use Rattle.std.specs.List.{AllByRecursion};
+ghost use Rattle.settings.specs.Settings.{Configuration, IsInRange};
 ghost use Rattle.members.specs.Calls.{room_after};
 ghost use Rattle.members.specs.Rows.{row_changed};
 ghost use Rattle.events.specs.declared.event.Event.{Event};
@@ -10,6 +11,8 @@ ghost use Rattle.core_steps.specs.EveryRun.{tasks_done, tasks_made, jobs_taken, 
 ghost use Rattle.core_steps.specs.EveryRun.{HasLegalDesks, DesksRecord, TellsLegalDesks, LegsTake, NewLegsTake};
 ghost use Rattle.core_steps.specs.Happening.{Happening};
 ghost use Rattle.core_steps.specs.Laws.{IsGivenUpFull, jobs_at};
+ghost use Rattle.core_steps.specs.Opening.{setup_by};
+ghost use Rattle.core_steps.specs.Reports.{ComesEvenly, DueOnceARound, MakesDueReports, ReportsAtOnce};
 ghost use Rattle.core_steps.specs.Run.{Runs, worlds_after};
 ghost use Rattle.core_steps.specs.World.{WorldState};
 
@@ -72,4 +75,22 @@ pub fn desks_by_history()
 pub fn legs_by_history()
     ensures legs { OfEveryRun LegsTake }
     ensures all { OfEveryRunFromNew NewLegsTake }
+{}
+
+/// Reports are made where a moment is taken in, and those alone that are due then.
+pub fn makes_due_reports()
+    ensures { OfEveryHappening MakesDueReports }
+{}
+
+/// Each endpoint and each leg has its report due once in each round; the slots of a round come at even distances, the last once the
+/// period is over.
+pub fn due_once_a_round()
+    ensures once { OfEveryRunFromNew (λ c w history. IsInRange c → DueOnceARound w history) }
+    ensures evenly { (c : Configuration) → IsInRange c → ComesEvenly (setup_by c) }
+{}
+
+/// With one slot all reports are made at once: whenever the period is over since they were made last.
+pub fn one_slot_is_all_at_once()
+    ensures { OfEveryRunFromNew (λ c w history. IsInRange c → c.report_slots ≡ 1
+        → ReportsAtOnce (worlds_after w history)) }
 {}

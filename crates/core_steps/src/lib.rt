@@ -2,7 +2,7 @@
 //! refusals come out (RFC 7667, section 3.7). Nothing reads a clock, starts a thread or opens a socket.
 //!
 //! Read the crate `events` first, what goes in and what comes out, then `world` and `runner`. `hearing` and `ticking`, `ingress` and
-//! `working` are the three kinds of step; `duties` is the ingress for a driver of its own, `front` what it and the machine both hold,
+//! `working` are the three kinds of step, `reporting` says whose report is due; `duties` is the ingress for a driver of its own, `front` what it and the machine both hold,
 //! `laws` what holds of every run, `quiet` what is live once nothing waits. What a datagram says (`datagram`), what a job does on legs (`legs`), which desk it asks and what
 //! follows from the answer (`desk_calls`), and how legs are found (`settings`) are crates of their own, whose names are handed on.
 #![tactic(auto)]
@@ -17,7 +17,9 @@ pub mod laws;
 mod machine;
 mod order_follow_ups;
 pub mod quiet;
+mod reporting;
 mod ring;
+mod rounds;
 mod runner;
 mod seed;
 mod tasks;

@@ -1,5 +1,4 @@
-use Rattle.std.proofs.Common.{◌≡◌, ◌≤◌, ℕ, ◌∙◌, ◌++◌, List, length, map, ap, arith, subst, sym}
-use Rattle.std.specs.Prelude.{if◌then◌else◌}
+use Rattle.std.proofs.Common.{◌≡◌, ◌≤◌, ◌∙◌, ◌++◌, List, length, map, ap, arith, subst, sym}
 use Rattle.std.specs.List.{filter_map}
 use Rattle.members.specs.declared.order.Order.{Order}
 use Rattle.members.specs.Calls.{Tick}
@@ -17,7 +16,7 @@ use Rattle.core_steps.proofs.ticking.tick.Goals as goal
 pub returns-clause-ok : goal.returns-clause-ok
 returns-clause-ok c =
     λ outs rest idle. ticks_so (whole c.args.front.now rest) c.args.moment outs c.tick_or_no_memory.new.self c.prepare.new.self.orders.items c.tick_or_no_memory.new.orders.items
-    (length c.endpoints.result.now) c.is_report_due-is_due.result c.push_after.new.follow_ups.items c.push_due.new.follow_ups.items
+    (length c.endpoints.result.now) c.slots_now-slots.result c.push_after.new.follow_ups.items c.push_due.new.follow_ups.items
     c.push_expiring.new.follow_ups.items c.push_reports.new.follow_ups.items c.prepare.new.self.datagram _ _ (not_busy c.args.front.now rest c.requires idle)
     idle.1 c.knows_count.ensures c.in_ok-prepare.ensures.orders c.in_ok-tick_or_no_memory.ensures.ok.0
     c.in_ok-tick_or_no_memory.ensures.ok.1
@@ -27,7 +26,8 @@ returns-clause-ok c =
           c.in_ok-prepare.ensures.follow_ups
           ∙ ap (λ (os : List Order). filter_map (task_after (setup_of c.args.front.now.setup) c.tick_or_no_memory.new.self) os) c.as_slice.ensures.value;
       count = ap (λ (l : List Ssrc). length l) c.endpoints.ensures.value;
-      says_due = c.is_report_due-is_due.ensures;
+      done = c.slots_now-slots.ensures.done;
+      come = c.slots_now-slots.ensures.come;
       pulses = c.push_due.ensures.items;
       expiring = c.push_expiring.ensures.items;
       reporting = c.push_reports.ensures;
@@ -35,7 +35,7 @@ returns-clause-ok c =
     (tasks_from c.prepare.new.self.datagram c.tick_or_no_memory.new.orders.items c.push_reports.new.follow_ups.items
     c.prepare.new.self.orders_done c.prepare.new.self.follow_ups_done c.in_ok-prepare.ensures.orders_done
     c.in_ok-prepare.ensures.follow_ups_done)
-    (c.reported_after-front.ensures ∙ ap (λ (n : ℕ). if c.is_report_due-is_due.result then n else c.args.front.now.reported) c.moment.ensures)
+    c.round_after-front.ensures
 
 pub push_after-requires : goal.push_after-requires
 push_after-requires c =
