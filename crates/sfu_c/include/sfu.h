@@ -14,7 +14,7 @@
  *     sfu_close(&room);
  *
  * Endpoints and legs are named by their numbers, which are their places in the settings, from 0. Moments are milliseconds since the
- * opening, by a clock that never goes back: the first report is due once `report_ms` of them have passed. A moment before an earlier one
+ * opening, by a clock that never goes back: the first reports are due once the first slot of `report_ms` has passed. A moment before an earlier one
  * is safe, too.
  *
  * The caller's part. Nothing here tests it:
