@@ -18,13 +18,21 @@ const PAUSE: Duration = Duration::from_millis(2);
 /// Six seconds a run.
 const PACKETS: u32 = 3_000;
 
-/// The plain loop, the unit in a room of 17, and in a full one with reports each second, of which one publisher is looked at.
+/// In how many slots of a second reports go out, where they don't all at once.
+const SLOTS: u32 = 50;
+
+/// The plain loop, the unit in a room of 17, and in a full one with reports each second, all at once and in slots, of which one publisher
+/// is looked at.
 pub fn delay(programs: &Programs, runs: usize) -> io::Result<()> {
     let subscribers = Room::full().subscribers;
     let least = Room::new(subscribers + 1, 1, subscribers);
     let full = Room { report_ms: 1_000, ..Room::full() };
-    let cases =
-        [("plain loop", Kind::Plain, least), ("17 present", Kind::Unit, least), ("256 present, 4096 legs", Kind::Unit, full)];
+    let cases = [
+        ("plain loop", Kind::Plain, least),
+        ("17 present", Kind::Unit, least),
+        ("256 present, 4096 legs", Kind::Unit, full),
+        ("the same, reports in 50 slots", Kind::Unit, Room { report_slots: SLOTS, ..full }),
+    ];
     println!("delay: of {VIDEO} bytes to {subscribers} subscribers, 500 packets a second, in microseconds; {runs} runs");
     let each = take_turns(runs, cases.len(), |at| measure(programs, cases[at].1, cases[at].2))?;
     let of = |at: usize, figure: usize| each[at].iter().map(|run| run[figure]).collect::<Vec<f64>>();

@@ -22,6 +22,8 @@ pub struct Room {
     /// How many packets each leg keeps.
     pub ring: usize,
     pub report_ms: u32,
+    /// 1: reports go out all at once, and the settings don't say so.
+    pub report_slots: u32,
     /// 0: requests don't age.
     pub request_ms: u32,
 }
@@ -29,7 +31,7 @@ pub struct Room {
 impl Room {
     /// With one worker and full rings, and without reports.
     pub fn new(endpoints: usize, publishers: usize, subscribers: usize) -> Room {
-        Room { endpoints, publishers, subscribers, workers: 1, ring: 512, report_ms: NEVER_MS, request_ms: 0 }
+        Room { endpoints, publishers, subscribers, workers: 1, ring: 512, report_ms: NEVER_MS, report_slots: 1, request_ms: 0 }
     }
 
     /// With as many endpoints and legs as there may be, 256 and 4,096, and rings of 8.
@@ -49,6 +51,9 @@ impl Room {
             "workers = {workers}\nring = {ring}\nhistory = 1024\ntimeout_ms = {NEVER_MS}\nreport_ms = {report_ms}\n\
              request_ms = {request_ms}\npli_gap_ms = 500\nunit_ssrc = 9\ncname = \"sfu\"\nlisten = \"{listen}\"\n"
         );
+        if self.report_slots > 1 {
+            text.insert_str(0, &format!("report_slots = {}\n", self.report_slots));
+        }
         for (address, source) in addresses.iter().zip(SOURCE..) {
             text += &format!("[[endpoint]]\nssrc = {source}\naddress = \"{address}\"\n");
         }
