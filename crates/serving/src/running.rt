@@ -123,17 +123,17 @@ fn run_watched_here<R: AllocGlobal + time::Clock, W: Watch + Drop>(
         (length settings.now.endpoints) r.desks.items) }
     ensures driven { IfOk result (IsDrivenReport settings.now pace.tick_ms pace.turns) }
 {
-    let mut door = door_on(rt, ends, settings, run_status)?;
-    drive(rt.alloc(), ends, settings, pace, &mut door, watch)
+    let door = door_on(rt, ends, settings, run_status)?;
+    drive(rt.alloc(), ends, settings, pace, door, watch)
 }
 
 /// Drives the machine through this entrance, with this watch.
-fn drive<E: Entrance, W: Watch + Drop>(
+fn drive<E: Entrance + Drop, W: Watch + Drop>(
     alloc: Global,
     ends: Ends<'_>,
     settings: &Settings,
     pace: Pace,
-    entrance: &mut E,
+    entrance: E,
     watch: W,
 ) -> Result<Report, ServeFault>
     requires { settings.now.workers ≡ 1 }
@@ -146,9 +146,9 @@ fn drive<E: Entrance, W: Watch + Drop>(
         traffic,
         ..
     } = ends.common;
-    let mut watch = watch;
+    let (mut entrance, mut watch) = (entrance, watch);
     let mut sink = SocketSink::new(alloc, ends.sockets, directory, traffic);
-    match one_thread::run_through(alloc, settings, entrance, &mut sink, &mut watch, pace) {
+    match one_thread::run_through(alloc, settings, &mut entrance, &mut sink, &mut watch, pace) {
         Ok(report) => Ok(report_of(report)),
         Err(fault) => Err(ServeFault::from(fault)),
     }
