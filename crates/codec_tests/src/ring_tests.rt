@@ -1,9 +1,7 @@
 //! Packets in, packets found and pushed out.
 ghost use Rattle.std.specs.Prelude.{◌≤◌};
 
-use bumpalo::Bump;
 use resend_ring::*;
-use shared_packet::Readdressed;
 use std::alloc::{AllocError, Global};
 use std::process::Abort;
 use std::test::Fail;
@@ -119,14 +117,6 @@ fn finds_the_latest_of_two(rt: HostRuntime) -> Result<(), Fail> {
     assert_keeps(&rt, rt.alloc(), &case)
 }
 
-#[test]
-fn greatest_ring(rt: HostRuntime) -> Result<(), Fail> {
-    assert_eq!(rt; MAX_CAPACITY, 512);
-    let ring = Ring::new(rt.alloc(), MAX_CAPACITY)?;
-    assert!(rt; ring.find(0).is_none());
-    Ok(())
-}
-
 /// Of the numbers from the place `from` on, the place of the last that has these low 16 bits.
 fn last_with(numbers: &[u64], from: usize, seq: u16) -> Option<usize> {
     let mut last = None;
@@ -217,39 +207,6 @@ fn agrees_with_a_list(rt: HostRuntime) -> Result<(), Fail> {
         assert!(rt; holds, "in a ring of {capacity}");
     }
     Ok(())
-}
-
-/// Whether a ring of this capacity is made in an arena of so many bytes, and how many of them are taken.
-fn made_in(alloc: Global, capacity: usize, limit: usize) -> (bool, usize)
-    requires { 1 ≤ capacity × capacity ≤ MAX_CAPACITY }
-{
-    let bump = Bump::new(alloc);
-    bump.set_allocation_limit(Some(limit));
-    let made = Ring::<Readdressed, &Bump>::with_capacity(&bump, capacity).is_ok();
-    (made, bump.allocated_bytes())
-}
-
-/// As a leg keeps them, a ring of 100 packets wants 4,000 bytes for them, then 200 for their links, then 2,048 for the heads. The
-/// memory comes in chunks, of which the first is full of the packets. A ring of 512 wants 20 KiB and 3 KiB, one
-/// of 8 wants 592 bytes in all.
-#[test]
-fn refused_without_memory(rt: HostRuntime) {
-    for (capacity, limit, taken, is_made) in [
-        (100, 0, 0, false),
-        (100, 3_900, 0, false),
-        (100, 4_100, 4_000, false),
-        (100, 5_000, 4_000 + 200, false),
-        (100, 10_000, 4_000 + 200 + 2_048, true),
-        (8, 1_000, 592, true),
-        (512, 24_576, 20_480 + 3_072, true),
-    ] {
-        let (made, bytes) = made_in(rt.alloc(), capacity, limit);
-        assert_eq!(rt; made, is_made, "{capacity} packets in {limit} bytes");
-        assert!(rt;
-            taken <= bytes && bytes <= limit,
-            "{bytes} of {limit} bytes"
-        );
-    }
 }
 
 /// Whichever growth is refused, the ring is made at the first try or at the second.

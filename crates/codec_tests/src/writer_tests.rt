@@ -1,13 +1,12 @@
-//! What the writers append, by examples and read again, and what a refusal of memory leaves.
+//! What the writers append, by examples and read again.
 
 ghost use Rattle.std.specs.Prelude.{pos, negsuc, ◌≤ℤ◌, ◌≤◌, length};
 
 use crate::expected::same;
 use crate::packet_text::{hex_text, packets_text};
-use bumpalo::Bump;
 use rtcp_compound::*;
 use rtcp_feedback::{Nack, TmmbrEntry, write_nack, write_pli, write_tmmbn, write_tmmbr};
-use std::alloc::{AllocError, Allocator, Global};
+use std::alloc::{AllocError, Global};
 use std::fmt::Write;
 use std::process::Abort;
 use std::test::Fail;
@@ -168,7 +167,7 @@ const LOST: [Nack; 2] = [
 ];
 
 /// Makes the call.
-fn write<A: Allocator>(writer: Writer, out: &mut Vec<u8, A>) -> Result<(), AllocError> {
+fn write(writer: Writer, out: &mut Vec<u8>) -> Result<(), AllocError> {
     match writer {
         Sr => write_sr(out, Ssrc(257), 0xa_8000_0000, 3000, 1, 2, &[]),
         SrOfThree => write_sr(out, Ssrc(257), u64::MAX, 3000, 1, u32::MAX, &three_blocks()),
@@ -181,7 +180,7 @@ fn write<A: Allocator>(writer: Writer, out: &mut Vec<u8, A>) -> Result<(), Alloc
     }
 }
 
-fn write_feedback<A: Allocator>(writer: Writer, out: &mut Vec<u8, A>) -> Result<(), AllocError> {
+fn write_feedback(writer: Writer, out: &mut Vec<u8>) -> Result<(), AllocError> {
     match writer {
         Tmmbn => write_tmmbn(out, Ssrc(1), &[entry(17)]),
         NoEntries => write_tmmbn(out, Ssrc(1), &[]),
@@ -259,36 +258,4 @@ fn writers_read_again(rt: HostRuntime) -> Result<(), Fail> {
         name_again(&rt, rt.alloc(), len)?;
     }
     Ok(())
-}
-
-/// Each writer, again and again into memory of 2,000 bytes, until it is refused more: then the bytes that
-/// it appended to are as they were.
-#[test]
-fn no_memory_leaves_the_vec(rt: HostRuntime) -> Result<(), Fail> {
-    for (writer, digits, _) in &WRITTEN {
-        assert!(rt; leaves_in_arena(rt.alloc(), *writer)?, "{digits}");
-    }
-    Ok(())
-}
-
-/// Whether the writer is refused memory in an arena of 2,000 bytes, and leaves what was there.
-fn leaves_in_arena(alloc: Global, writer: Writer) -> Result<bool, AllocError> {
-    let bump = Bump::new(alloc);
-    bump.set_allocation_limit(Some(2000));
-    leaves(alloc, writer, &mut Vec::new(&bump))
-}
-
-/// Whether the writer is refused memory in the end, and leaves what was there.
-fn leaves<A: Allocator>(
-    alloc: Global,
-    writer: Writer,
-    out: &mut Vec<u8, A>,
-) -> Result<bool, AllocError> {
-    for _ in 0..1000 {
-        let before = out.as_slice().to_vec(alloc)?;
-        if write(writer, out).is_err() {
-            return Ok(!before.is_empty() && out.as_slice() == before.as_slice());
-        }
-    }
-    Ok(false)
 }

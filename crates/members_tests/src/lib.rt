@@ -9,8 +9,6 @@ mod limits_tests;
 #[cfg(test)]
 mod memory_tests;
 #[cfg(test)]
-mod reception_tests;
-#[cfg(test)]
 mod room_tests;
 #[cfg(test)]
 mod scripts;

@@ -91,25 +91,6 @@ fn endpoint_by_endpoint_and_leg_by_leg(rt: HostRuntime) -> Result<(), Fail> {
     plays(&rt, rt.alloc(), &mut larger_room(rt.alloc())?, script)
 }
 
-/// The moment before which nobody is overdue is remembered, so that a packet goes over no endpoint: the endpoints are heard since 0, 1
-/// and 10, and after each call stands the first moment at which one of the three is overdue, or a lower one that was found before. At
-/// 1000 it is reached: endpoint 1 was heard at 20, and is heard again; at 1020 likewise: 0 was heard at 999.
-#[test]
-fn quiet_moment_is_remembered(rt: HostRuntime) -> Result<(), Fail> {
-    let script = "hear 0 2 18:\n\
-        hear 1 1 17:\n\
-        hear 10 0 16: arrive 0 1 route 0 1 1 on arrive 1 2 route 1 2 0 off arrive 2 3 route 2 3 3 on \
-        arrive 3 4 route 3 4 4 on\n\
-        hear 20 1 17:\nquiet: 1000\ntick 20:\nquiet: 1000\n\
-        hear 30 2 18:\nquiet: 1000\ntick 30:\nquiet: 1000\n\
-        hear 500 2 18:\nquiet: 1000\ntick 500:\nquiet: 1000\n\
-        hear 999 0 16:\nquiet: 1000\ntick 999:\nquiet: 1000\n\
-        hear 1000 1 17:\nquiet: 1020\ntick 1000:\nquiet: 1020\n\
-        hear 1010 2 18:\nquiet: 1020\ntick 1010:\nquiet: 1020\n\
-        hear 1020 1 17:\nquiet: 1999\ntick 1020:\nquiet: 1999\n";
-    plays(&rt, rt.alloc(), &mut larger_room(rt.alloc())?, script)
-}
-
 /// One of four lost, which is 64 of 256; transits 0, 0 and -900, so 900 / 16 of jitter.
 #[test]
 fn block_of_example_19(rt: HostRuntime) -> Result<(), Fail> {

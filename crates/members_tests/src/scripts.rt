@@ -1,12 +1,12 @@
-//! The language of a room's and a reception's tests: a script has a line for each thing that is done or asked, and after a colon
+//! The language of a room's tests: a script has a line for each thing that is done or asked, and after a colon
 //! what it gives.
 //!
 //! | Line | What is done |
 //! |---|---|
 //! | `hear MOMENT ENDPOINT SOURCE`, `bye MOMENT ENDPOINT` | a packet of an endpoint, its goodbye |
 //! | `tick MOMENT`, `on MOMENT LEG`, `off MOMENT LEG` | a moment; a leg is selected, or not |
-//! | `packet ENDPOINT SEQ TIMESTAMP`, `report ENDPOINT NTP RTP` | what is received of an endpoint; of a reception the moment stands in the endpoint's place |
-//! | `moment`, `quiet`, `present ENDPOINT`, `stay LEG`, `refuses MOMENT ENDPOINT SOURCE` | what a room shows |
+//! | `packet ENDPOINT SEQ TIMESTAMP`, `report ENDPOINT NTP RTP` | what is received of an endpoint |
+//! | `moment`, `present ENDPOINT`, `stay LEG`, `refuses MOMENT ENDPOINT SOURCE` | what a room shows |
 //! | `last ENDPOINT`, `block ENDPOINT` | the last sender report, the block about an endpoint |
 //!
 //! A call gives its orders, or `refused` and the fault's number, and leaves the orders that stood before. A block gives its fields in
@@ -26,7 +26,7 @@ type Numbers = [u64; 3];
 const BEFORE: Order = Order::Arrive { leg: 9, stay: 9 };
 
 /// The numbers of these words.
-pub(crate) fn numbers_of(words: &str) -> Numbers {
+fn numbers_of(words: &str) -> Numbers {
     let mut numbers = [0; 3];
     let mut rest = words;
     for number in numbers.iter_mut() {
@@ -38,12 +38,12 @@ pub(crate) fn numbers_of(words: &str) -> Numbers {
 }
 
 /// The low 16 bits of a number.
-pub(crate) fn low_16(number: u64) -> u16 {
+fn low_16(number: u64) -> u16 {
     (number % 65_536) as u16
 }
 
 /// The low 32 bits of a number.
-pub(crate) fn low_32(number: u64) -> u32 {
+fn low_32(number: u64) -> u32 {
     (number % 4_294_967_296) as u32
 }
 
@@ -81,7 +81,7 @@ fn write_block(text: &mut String, block: &Block) -> Result<(), AllocError> {
 }
 
 /// Writes a block that may be none.
-pub(crate) fn write_some_block(text: &mut String, block: Option<Block>) -> Result<(), AllocError> {
+fn write_some_block(text: &mut String, block: Option<Block>) -> Result<(), AllocError> {
     match block {
         Some(block) => write_block(text, &block),
         None => text.push_str(" none"),
@@ -89,7 +89,7 @@ pub(crate) fn write_some_block(text: &mut String, block: Option<Block>) -> Resul
 }
 
 /// Writes the two timestamps of a sender report, if there is one.
-pub(crate) fn write_last(text: &mut String, last: Option<(u64, u32)>) -> Result<(), AllocError> {
+fn write_last(text: &mut String, last: Option<(u64, u32)>) -> Result<(), AllocError> {
     match last {
         Some((ntp, rtp)) => write!(text, " {ntp} {rtp}"),
         None => text.push_str(" none"),
@@ -132,7 +132,6 @@ fn shown(room: &Room, name: &str, numbers: Numbers) -> u64 {
     let [first, endpoint, source] = numbers;
     match name {
         "moment" => room.moment(),
-        "quiet" => room.quiet_until(),
         "present" => u64::from(room.is_present(low_16(first))),
         "stay" => room.stay(low_16(first)),
         _ => match room.refuses(first, low_16(endpoint), Ssrc(low_32(source))) {

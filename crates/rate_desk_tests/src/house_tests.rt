@@ -1,4 +1,4 @@
-//! A house beside desks on which the same calls are made, and one that is refused for want of memory.
+//! A house beside desks on which the same calls are made, and one that is made while growths are refused.
 
 ghost use Rattle.std.specs.Prelude.{◌≡◌, ◌<◌};
 
@@ -173,25 +173,6 @@ fn refuses(alloc: Global, publishers: usize, seats: usize) -> bool {
         publishers,
         seats,
     )
-}
-
-/// A desk has more than 2^15 bytes, and a seat at least 2^4: of either these are more than 2^48, which no process
-/// can have.
-#[test]
-fn refused_without_memory(rt: HostRuntime) {
-    let (many_desks, many_seats) = (1 << 33, 1 << 44);
-    assert!(rt; !refuses(rt.alloc(), 2, 2));
-    for (publishers, seats) in [
-        (many_desks, 2),
-        (2, many_seats),
-        (usize::MAX, 2),
-        (2, usize::MAX),
-    ] {
-        assert!(rt;
-            refuses(rt.alloc(), publishers, seats),
-            "{publishers} publishers, {seats} seats"
-        );
-    }
 }
 
 /// Whichever growth is refused, the house is made at the first try or at the second. (`gather` asks for no memory.)

@@ -1,17 +1,16 @@
 //! Peers that come, ask, are answered and go, as docs/FORMATS.md has it.
 
 use crate::expected::same;
-use control_protocol::{MAX_PEERS, Peers, Place, ROOM_AFTER_MS, Request, place_among};
+use control_protocol::{MAX_PEERS, Peers, Request};
 use std::alloc::{AllocError, Global};
 use std::io::{self, ErrorKind, Read, Write};
 use std::process::Abort;
 use std::test::Fail;
 
-/// A stream that gives these bytes, a few at a time; then nothing comes, or it has ended.
+/// A stream that gives these bytes, a few at a time; then nothing comes.
 #[derive(Drop)]
 struct Line {
     bytes: &'static [u8],
-    ends: bool,
     /// So many bytes it takes of what it is answered;
     takes: usize,
     /// or, if it awaits an answer, the bytes of that, one at a time, and none if the next one is another.
@@ -21,7 +20,7 @@ struct Line {
 impl Read for Line {
     fn read(&mut self, buf: &mut [u8]) -> io::Result<usize> {
         let count = self.bytes.len().min(buf.len()).min(5);
-        if count == 0 && !self.ends {
+        if count == 0 {
             return Err(io::Error::from(ErrorKind::WouldBlock));
         }
         buf[..count].copy_from_slice(&self.bytes[..count]);
@@ -55,7 +54,6 @@ impl Write for Line {
 const fn line_of(bytes: &'static [u8], takes: usize) -> Line {
     Line {
         bytes,
-        ends: false,
         takes,
         awaits: None,
     }
@@ -135,70 +133,6 @@ fn looks_at_peers_in_turn(rt: HostRuntime) -> Result<(), Fail> {
     let mut peers = Peers::new(rt.alloc());
     ten_come(&mut peers);
     look_in_turn(&rt, rt.alloc(), &mut peers)?;
-    Ok(())
-}
-
-/// One has said nothing for two seconds, and seven have asked a second ago.
-fn make_room(rt: &impl Abort, alloc: Global, peers: &mut Peers<Line>) -> Result<(), AllocError> {
-    come(peers, b"pre", 100, 0);
-    for _peer in 1..MAX_PEERS {
-        come(peers, b"legs\n", 100, 900);
-    }
-    ask(rt, alloc, peers, 1_000, &[Request::Legs; 7])?;
-    come(peers, b"counts\n", 100, 1_999);
-    come(peers, b"stop\n", 100, 2_000);
-    come(peers, b"present\n", 100, 2_001);
-    same(rt, &peers.count(), &MAX_PEERS);
-    ask(rt, alloc, peers, 2_001, &[Request::Stop])
-}
-
-/// Seven who have asked a second ago, and one that has said nothing for two: that one makes room for who comes, and then nobody does.
-#[test]
-fn makes_room_for_who_waits(rt: HostRuntime) -> Result<(), Fail> {
-    let mut peers = Peers::new(rt.alloc());
-    make_room(&rt, rt.alloc(), &mut peers)?;
-    Ok(())
-}
-
-/// The one that has said no whole line for the longest makes room, not before that is two seconds, and only if all places are taken.
-#[test]
-fn finds_a_place(rt: HostRuntime) -> Result<(), Fail> {
-    let mut silences = [1, 2, 3, ROOM_AFTER_MS, 9_999, ROOM_AFTER_MS, 0, 7];
-    same(&rt, &place_among(&silences[..]), &Place::Of(4));
-    same(&rt, &place_among(&silences[1..]), &Place::Free);
-    silences[4] = 0;
-    silences[3] = 1_999;
-    same(&rt, &place_among(&silences[..]), &Place::Of(5));
-    silences[5] = 1_999;
-    same(&rt, &place_among(&silences[..]), &Place::Nowhere);
-    Ok(())
-}
-
-/// One comes that says this and has gone; how many there are then.
-fn come_and_go(peers: &mut Peers<Line>, bytes: &'static [u8]) -> usize {
-    peers.let_go(1);
-    let line = Line {
-        ends: true,
-        ..line_of(bytes, 100)
-    };
-    peers.admit(line, 1);
-    peers.count()
-}
-
-/// Who is gone when it is taken in has no place; who is gone behind half a line is let go once all places are taken, and who left a
-/// whole line is heard.
-#[test]
-fn lets_go_of_who_is_gone(rt: HostRuntime) -> Result<(), Fail> {
-    let mut peers = Peers::new(rt.alloc());
-    same(&rt, &come_and_go(&mut peers, b""), &0);
-    same(&rt, &come_and_go(&mut peers, b"legs\n"), &1);
-    for count in 2..=MAX_PEERS {
-        same(&rt, &come_and_go(&mut peers, b"leg"), &count);
-    }
-    same(&rt, &come_and_go(&mut peers, b"stop\n"), &2);
-    same(&rt, &asked(&mut peers, 1), &Some(Request::Legs));
-    answer(&mut peers);
-    same(&rt, &asked(&mut peers, 1), &Some(Request::Stop));
     Ok(())
 }
 

@@ -1,9 +1,16 @@
-//! The tests of the crates between sockets and the machine, and of what people are told, in a crate of their own so that none of those is
-//! proved a second time with them. `loopback` has what tests need of sockets and settings, `screens` the language of tests of a screen.
+//! The tests of the crates between sockets and the machine, of what people are told, and of commands, in a crate of their own so that none of
+//! those is proved a second time with them. `loopback` has what tests need of sockets and settings. Most tests of commands are a table
+//! of rows (`row`), which one loop hands to a public call, over streams of bytes (`stream`).
 #![tactic(auto)]
 
 #[cfg(test)]
+mod bound_tests;
+#[cfg(test)]
+mod check_tests;
+#[cfg(test)]
 mod control_tests;
+#[cfg(test)]
+mod crowd_tests;
 #[cfg(test)]
 mod expected;
 #[cfg(test)]
@@ -11,19 +18,15 @@ mod loopback;
 #[cfg(test)]
 mod loopback_tests;
 #[cfg(test)]
-mod outside_tests;
-#[cfg(test)]
 mod page_tests;
 #[cfg(test)]
-mod repeats_tests;
+mod replay_tests;
 #[cfg(test)]
-mod resend_tests;
-#[cfg(test)]
-mod screening_tests;
-#[cfg(test)]
-mod screens;
+mod row;
 #[cfg(test)]
 mod sink_tests;
+#[cfg(test)]
+mod stream;
 #[cfg(test)]
 mod traffic_tests;
 #[cfg(test)]

@@ -48,7 +48,7 @@ fn room_traffic(alloc: Global) -> Result<Traffic, Fail> {
 }
 
 /// What is noted of a datagram of an endpoint.
-pub(super) fn notes_of(alloc: Global, datagram: &[u8]) -> Result<Notes, Fail> {
+fn notes_of(alloc: Global, datagram: &[u8]) -> Result<Notes, Fail> {
     let mut notes = Notes::with_room(alloc, 1, 1)?;
     read_noting(
         datagram,
@@ -143,62 +143,6 @@ fn reports_of_a_room(rt: HostRuntime) -> Result<(), Fail> {
     let traffic = room_traffic(rt.alloc())?;
     note_answer(&rt, rt.alloc(), &traffic)?;
     note_upstream(&rt, rt.alloc(), &traffic)
-}
-
-/// The round trip in the last report of leg 1, if there is such a report.
-fn trip_of(traffic: &Traffic) -> Option<Option<u32>> {
-    let report = traffic.leg_report(1)?;
-    Some(report.round_trip_ms)
-}
-
-/// Endpoints come anew: first another one, then the subscriber of leg 1, which reports once more.
-fn come_anew(rt: &impl Abort, alloc: Global, traffic: &Traffic) -> Result<(), Fail> {
-    send_report(alloc, traffic)?;
-    hear_report(alloc, traffic, 1)?;
-    traffic.came_anew(2);
-    same(rt, &trip_of(traffic), &Some(Some(50)));
-    traffic.came_anew(1);
-    same(rt, &trip_of(traffic), &None);
-    hear_report(alloc, traffic, 1)?;
-    same(rt, &trip_of(traffic), &Some(None));
-    Ok(())
-}
-
-/// How many reports of legs, and of publishers, are shown at a moment.
-fn shown(alloc: Global, traffic: &Traffic, moment: u64) -> Result<(usize, usize), Fail> {
-    let legs = traffic.leg_reports(alloc, moment)?;
-    let publishers = traffic.publisher_reports(alloc, moment)?;
-    Ok((legs.len(), publishers.len()))
-}
-
-/// A subscriber reports at 1,000 ms: that is shown for 15 seconds. It reports again after 6 seconds, which are its interval from then on:
-/// that is shown for 18. What the unit says each second of a publisher is shown for 15.
-#[test]
-fn reports_that_grow_old(rt: HostRuntime) -> Result<(), Fail> {
-    let alloc = rt.alloc();
-    let traffic = room_traffic(alloc)?;
-    let answer = receiver_report(alloc, 17, block_of_the_figure())?;
-    let notes = notes_of(alloc, answer.as_slice())?;
-    traffic.turned(1000);
-    traffic.heard_control(1, answer.len(), &notes, 1000);
-    same(&rt, &shown(alloc, &traffic, 16_000)?, &(1, 0));
-    same(&rt, &shown(alloc, &traffic, 16_001)?, &(0, 0));
-    traffic.turned(7000);
-    traffic.heard_control(1, answer.len(), &notes, 7000);
-    let upstream = receiver_report(alloc, 9, block_about(16, 0, 0))?;
-    traffic.sent(0, upstream.as_slice());
-    same(&rt, &shown(alloc, &traffic, 22_000)?, &(1, 1));
-    same(&rt, &shown(alloc, &traffic, 22_001)?, &(1, 0));
-    same(&rt, &shown(alloc, &traffic, 25_000)?, &(1, 0));
-    same(&rt, &shown(alloc, &traffic, 25_001)?, &(0, 0));
-    Ok(())
-}
-
-/// A subscriber comes anew: what it reported is forgotten, and so is the sender report that it names; what another one reported isn't.
-#[test]
-fn reports_of_who_came_anew(rt: HostRuntime) -> Result<(), Fail> {
-    let traffic = room_traffic(rt.alloc())?;
-    come_anew(&rt, rt.alloc(), &traffic)
 }
 
 /// What was refused, endpoint by endpoint: the same twice, reasons of one endpoint, the last of their kinds, one of no datagram, and one of

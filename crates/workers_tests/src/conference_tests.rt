@@ -15,12 +15,6 @@ const HEAD: [u8; 24] = [
     0x80, 0xc9, 0, 1, 0, 0, 0, 9, 0x81, 0xca, 0, 3, 0, 0, 0, 9, 1, 3, 0x73, 0x66, 0x75, 0, 0, 0,
 ];
 
-/// The same, of which one entry of a datagram is heard.
-const LIMITED: &str =
-    "workers = 1\nring = 8\nhistory = 128\ntimeout_ms = 1000\nreport_ms = 60000\npli_gap_ms = 500\n\
-    unit_ssrc = 9\ncname = \"sfu\"\nentry_limit = 1\n[[endpoint]]\nssrc = 16\n[[endpoint]]\nssrc = 17\n\
-    [[leg]]\nsubscriber = 1\npublisher = 0\nout_ssrc = 257\nfirst_seq = 100\n";
-
 fn open_room(alloc: Global, text: &str) -> Result<Conference, Fail> {
     match Conference::open(alloc, text.as_bytes()) {
         Ok(conference) => Ok(conference),
@@ -32,16 +26,6 @@ const PACKET: [u8; 14] = [0x80, 0x60, 0, 7, 0, 0, 0x0b, 0xb8, 0, 0, 0, 16, 0xaa,
 
 /// The same under the leg's source and number.
 const SENT_ON: [u8; 14] = [0x80, 0x60, 0, 100, 0, 0, 0x0b, 0xb8, 0, 0, 1, 1, 0xaa, 0xbb];
-
-/// The packet after it, and that under the leg's source and number.
-const SECOND: [u8; 14] = [0x80, 0x60, 0, 8, 0, 0, 0x0b, 0xb8, 0, 0, 0, 16, 0xaa, 0xbb];
-
-const SECOND_SENT_ON: [u8; 14] = [0x80, 0x60, 0, 101, 0, 0, 0x0b, 0xb8, 0, 0, 1, 1, 0xaa, 0xbb];
-
-/// 17 asks for both again, in an entry each.
-const AGAIN: [u8; 20] = [
-    0x81, 0xcd, 0, 4, 0, 0, 0, 17, 0, 0, 1, 1, 0, 100, 0, 0, 0, 101, 0, 0,
-];
 
 const REPORT: [u8; 8] = [0x80, 0xc9, 0, 1, 0, 0, 0, 17];
 
@@ -60,14 +44,14 @@ const TOLD: [u8; 20] = [
     0x84, 0xcd, 0, 4, 0, 0, 1, 1, 0, 0, 0, 0, 0, 0, 0, 17, 0, 7, 0xd0, 0x28,
 ];
 
-/// Whether as much of the datagram is heard as the settings say.
-fn hears_limited(conference: &mut Conference, moment: u64, endpoint: u16, bytes: &[u8]) -> bool {
-    conference.hear_limited(moment, endpoint, bytes).is_ok()
-}
-
 /// Whether the datagram is heard.
 fn hears(conference: &mut Conference, moment: u64, endpoint: u16, bytes: &[u8]) -> bool {
     conference.hear(moment, endpoint, bytes).is_ok()
+}
+
+/// Whether as much of the datagram is heard as the settings say, which is all of it.
+fn hears_limited(conference: &mut Conference, moment: u64, endpoint: u16, bytes: &[u8]) -> bool {
+    conference.hear_limited(moment, endpoint, bytes).is_ok() && conference.entries_beyond() == 0
 }
 
 /// Whether the next datagram goes to this endpoint, begins with this head and ends so.
@@ -137,7 +121,7 @@ fn sends_on(conference: &mut Conference) -> bool {
     announces(conference, 0, 1)
         && certifies(conference, 0, 1)
         && conference.certified(2).is_none()
-        && hears(conference, 30, 0, PACKET.as_slice())
+        && hears_limited(conference, 30, 0, PACKET.as_slice())
         && takes(conference, 1, SENT_ON.as_slice(), SENT_ON.as_slice())
 }
 
@@ -150,67 +134,5 @@ fn serves(conference: &mut Conference) -> bool {
 fn serves_a_conference(rt: HostRuntime) -> Result<(), Fail> {
     let is_so = serves(&mut open_room(rt.alloc(), ROOM)?);
     assert!(rt; is_so);
-    Ok(())
-}
-
-/// Whether the first packet is what goes to 17 next, and is taken.
-fn takes_first(conference: &mut Conference) -> bool {
-    takes(conference, 1, SENT_ON.as_slice(), SENT_ON.as_slice())
-}
-
-/// The same of the second.
-fn takes_second(conference: &mut Conference) -> bool {
-    takes(
-        conference,
-        1,
-        SECOND_SENT_ON.as_slice(),
-        SECOND_SENT_ON.as_slice(),
-    )
-}
-
-/// Both come, and two packets go on to 17.
-fn sends_two(conference: &mut Conference) -> bool {
-    hears(conference, 0, 0, PACKET.as_slice())
-        && hears(conference, 0, 1, REPORT.as_slice())
-        && hears(conference, 10, 0, PACKET.as_slice())
-        && takes_first(conference)
-        && hears(conference, 10, 0, SECOND.as_slice())
-        && takes_second(conference)
-}
-
-/// Both are heard.
-fn hears_both(conference: &mut Conference) -> bool {
-    takes_first(conference) && takes_second(conference) && conference.next().is_none()
-}
-
-/// Of a datagram with two entries the first is heard, and the second counted.
-fn hears_one_entry(conference: &mut Conference) -> bool {
-    hears_limited(conference, 20, 1, AGAIN.as_slice())
-        && takes_first(conference)
-        && conference.next().is_none()
-        && conference.entries_beyond() == 1
-}
-
-/// With a limit of one entry: one of two is heard, and both of a datagram that is heard whole.
-fn is_limited(conference: &mut Conference) -> bool {
-    sends_two(conference)
-        && hears_one_entry(conference)
-        && hears(conference, 30, 1, AGAIN.as_slice())
-        && hears_both(conference)
-}
-
-/// Without a limit both are heard, and none counted.
-fn is_unlimited(conference: &mut Conference) -> bool {
-    sends_two(conference)
-        && hears_limited(conference, 20, 1, AGAIN.as_slice())
-        && hears_both(conference)
-        && conference.entries_beyond() == 0
-}
-
-#[test]
-fn hears_so_many_entries(rt: HostRuntime) -> Result<(), Fail> {
-    let limited = is_limited(&mut open_room(rt.alloc(), LIMITED)?);
-    let unlimited = is_unlimited(&mut open_room(rt.alloc(), ROOM)?);
-    assert!(rt; limited && unlimited);
     Ok(())
 }

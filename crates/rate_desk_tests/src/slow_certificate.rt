@@ -1,26 +1,36 @@
 //! The certificate of a choice by the formulas of `docs/FORMATS.md`, one by one: for tests.
 
-use arrayvec::ArrayVec;
 use rate_cert::{Cert, Implied, Kept, Request};
 use std::test::Fail;
 use tmmbr_tuple::Pair;
 
 /// The certificate of the requests at these places, which are listed by rising overhead.
 pub fn certificate(requests: &[Request], places: &[usize]) -> Result<Cert, Fail> {
-    let mut kept = ArrayVec::new();
+    let mut cert = Cert::default();
+    put_kept(requests, places, &mut cert)?;
+    put_implied(requests, places, &mut cert)?;
+    Ok(cert)
+}
+
+/// Puts the kept ones.
+fn put_kept(requests: &[Request], places: &[usize], cert: &mut Cert) -> Result<(), Fail> {
     for j in 0..places.len() {
         let place = u16::try_from(places[j])?;
         let pair = pair_of_kept(requests, places, j).ok_or("in range")?;
-        kept.try_push(Kept { place, pair })?;
+        cert.kept.try_push(Kept { place, pair })?;
     }
-    let mut implied = ArrayVec::new();
+    Ok(())
+}
+
+/// Puts those that follow from them.
+fn put_implied(requests: &[Request], places: &[usize], cert: &mut Cert) -> Result<(), Fail> {
     for (place, request) in requests.iter().enumerate() {
         if !places.contains(&place) {
-            let entry = implied_entry(requests, places, place, request);
-            implied.try_push(entry.ok_or("in range")?)?;
+            let entry = implied_entry(requests, places, place, request).ok_or("in range")?;
+            cert.implied.try_push(entry)?;
         }
     }
-    Ok(Cert { kept, implied })
+    Ok(())
 }
 
 /// The rate and overhead of the kept request of number j; `None` past the last one.
@@ -62,6 +72,28 @@ fn left_end(requests: &[Request], places: &[usize], j: usize) -> Option<(u128, u
     Some((rate.wrapping_sub(rate_before), lower))
 }
 
+/// The overhead of the request at this place; 0 if there is none.
+fn overhead_at(requests: &[Request], place: usize) -> u16 {
+    requests.get(place).map_or(0, |r| r.tuple.overhead)
+}
+
+/// The entry of the request at this place, which follows from those at two others, by these multipliers.
+fn entry_by(place: usize, a: usize, b: usize, p: u16, q: u16, r: u16) -> Option<Implied> {
+    let (place, a, b) = (
+        u16::try_from(place).ok()?,
+        u16::try_from(a).ok()?,
+        u16::try_from(b).ok()?,
+    );
+    Some(Implied {
+        place,
+        a,
+        b,
+        p,
+        q,
+        r,
+    })
+}
+
 /// How the request, which stands at this place and isn't kept, follows from kept ones.
 fn implied_entry(
     requests: &[Request],
@@ -70,27 +102,36 @@ fn implied_entry(
     request: &Request,
 ) -> Option<Implied> {
     let overhead = request.tuple.overhead;
-    let first = *places.first()?;
-    let last = *places.last()?;
-    let overhead_of = |k: usize| requests.get(k).map_or(0, |r| r.tuple.overhead);
-    let (a, b, p, q, r) = if overhead <= overhead_of(first) {
-        (first, first, 1, 0, 1)
-    } else if overhead >= overhead_of(last) {
-        (last, last, overhead, 0, overhead_of(last))
-    } else {
-        let behind = places.iter().position(|k| overhead < overhead_of(*k))?;
-        let a = *places.get(behind.wrapping_sub(1))?;
-        let b = *places.get(behind)?;
-        let p = overhead_of(b).wrapping_sub(overhead);
-        let q = overhead.wrapping_sub(overhead_of(a));
-        (a, b, p, q, overhead_of(b).wrapping_sub(overhead_of(a)))
-    };
-    Some(Implied {
-        place: u16::try_from(place).ok()?,
-        a: u16::try_from(a).ok()?,
-        b: u16::try_from(b).ok()?,
-        p,
-        q,
-        r,
-    })
+    let (first, last) = (*places.first()?, *places.last()?);
+    let farthest = overhead_at(requests, last);
+    if overhead <= overhead_at(requests, first) {
+        return entry_by(place, first, first, 1, 0, 1);
+    }
+    if overhead >= farthest {
+        return entry_by(place, last, last, overhead, 0, farthest);
+    }
+    entry_between(requests, places, place, overhead)
+}
+
+/// The same of one whose overhead lies between those of kept ones: by its neighbours among these.
+fn entry_between(
+    requests: &[Request],
+    places: &[usize],
+    place: usize,
+    overhead: u16,
+) -> Option<Implied> {
+    let behind = places
+        .iter()
+        .position(|k| overhead < overhead_at(requests, *k))?;
+    let a = *places.get(behind.wrapping_sub(1))?;
+    let b = *places.get(behind)?;
+    let (before, after) = (overhead_at(requests, a), overhead_at(requests, b));
+    entry_by(
+        place,
+        a,
+        b,
+        after.wrapping_sub(overhead),
+        overhead.wrapping_sub(before),
+        after.wrapping_sub(before),
+    )
 }
