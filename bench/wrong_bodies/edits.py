@@ -25,8 +25,6 @@ RT_JOBS then says how many checks go side by side; what was tried before, and wh
 
 The last line is `N refused, M not`, and the status is 0 only if each was refused.
 """
-import importlib.machinery
-import importlib.util
 import json
 import os
 import re
@@ -39,6 +37,10 @@ import tempfile
 
 HERE = os.path.dirname(os.path.abspath(__file__))
 TOP = os.path.dirname(os.path.dirname(HERE))
+sys.path.insert(0, f"{TOP}/tools")
+sys.dont_write_bytecode = True
+from kept_libraries import Libraries
+
 # What rt says of an edit that was refused: by the prover, or by a limit of it.
 REFUSED = re.compile(r"must-fail (\w+/\S+\.edit): refused, as it must be")
 # What is said of a proof that names what is no longer there, and of what cites that proof.
@@ -206,7 +208,7 @@ def homes_of(folder):
     return found
 
 
-class Room:
+class Room(Libraries):
     """A copy of the crates, with libraries that `rt ci` has kept."""
 
     def __init__(self, room):
@@ -218,22 +220,7 @@ class Room:
             for part in ("src", "specs", "proofs"):
                 if os.path.isdir(f"{TOP}/crates/{crate}/{part}"):
                     shutil.copytree(f"{TOP}/crates/{crate}/{part}", f"{self.top}/crates/{crate}/{part}")
-        loader = importlib.machinery.SourceFileLoader("rt", os.path.realpath(shutil.which("rt")))
-        self.rt = importlib.util.module_from_spec(importlib.util.spec_from_loader("rt", loader))
-        loader.exec_module(self.rt)
-        self.rt.Crate.allowed = self.rt.handles_of(self.top)
-        self.crates = {it.name: it for it in self.rt.crates_of(self.top)}
-        self.kept, self.given = self.rt.Kept([*self.crates.values()]), set()
-
-    def lacking(self, name):
-        """Gives the crate and those below it what `rt ci` kept of them, and returns the first of which it kept nothing."""
-        for crate in [*self.crates[name].below(), self.crates[name]]:
-            if crate.name not in self.given:
-                if not self.kept.give(crate, False, self.kept.key(crate)):
-                    return crate.name
-                self.kept.is_built(crate)
-                self.given.add(crate.name)
-        return None
+        super().__init__(self.top)
 
 
 class Tried:
