@@ -48,8 +48,10 @@ class Libraries:
         shutil.rmtree(at, ignore_errors=True)
         if not self.kept.give(crate, False, self.kept.key(crate)):
             return False
-        with open(f"{at}/stamp", "w", encoding="utf-8") as it:
-            it.write(crate.stamp())
+        # (a static library is nothing that others stand on)
+        if os.path.isdir(at):
+            with open(f"{at}/stamp", "w", encoding="utf-8") as it:
+                it.write(crate.stamp())
         return True
 
 

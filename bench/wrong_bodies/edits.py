@@ -1,6 +1,6 @@
 #!/usr/bin/env python3
-"""Tries the edits that no gate tries: edits.py [--apart] [CRATE ..]; those of every crate in edits/, if none is named. edits.py --look, which
-.ci/names calls, only lists those that don't fit the sources any more.
+"""Tries the edits that `rt ci` doesn't try: edits.py [--apart] [CRATE | CRATE/NAME ..]; all of every crate in edits/, if none is named. edits.py
+--look, which .ci/names calls, only lists those that don't fit the sources any more.
 
 Each is edits/CRATE/NAME.edit, written as those of crates/CRATE/must-fail are. It is refused if the function whose body it changes isn't proved
 with it. That is asked of many at once: a function's proof cites of another only its contract, so edits of different functions don't meet,
@@ -51,12 +51,18 @@ FALSE = ", and is false for some values"
 TRIES = 2
 
 
-def put_in(crate, top):
-    """Puts a crate's edits where rt looks for them, and returns their names."""
+def put_in(crate, names, top):
+    """Puts edits of a crate where rt looks for them, and returns what it calls them."""
     theirs = f"{top}/crates/{crate}/must-fail"
     shutil.rmtree(theirs, ignore_errors=True)
-    shutil.copytree(f"{HERE}/edits/{crate}", theirs)
-    return {f"{crate}/{it}" for it in os.listdir(theirs)}
+    os.mkdir(theirs)
+    for name in names:
+        shutil.copy2(f"{HERE}/edits/{crate}/{name}", theirs)
+    return {f"{crate}/{it}" for it in names}
+
+
+def edits_in(crate):
+    return sorted(os.listdir(f"{HERE}/edits/{crate}"))
 
 
 def text_of(path):
@@ -99,14 +105,10 @@ class Edit:
                     yield file, at, before, after
 
 
-def edits_of(crate):
-    return [Edit(crate, it) for it in sorted(os.listdir(f"{HERE}/edits/{crate}"))]
-
-
 def misfits():
     """Yields each edit whose old lines don't stand once in the file that it names, after those before them gave way."""
     for crate in sorted(os.listdir(f"{HERE}/edits")):
-        for edit in edits_of(crate):
+        for edit in (Edit(crate, it) for it in edits_in(crate)):
             if edit.applied(f"{TOP}/crates/{crate}", {}) is None:
                 yield f"bench/wrong_bodies/edits/{edit.label}: its old line doesn't stand once in crates/{crate}"
 
@@ -241,9 +243,9 @@ class Tried:
 
 
 class Asked:
-    """What is asked of one crate: its edits, its functions, and what they are called."""
+    """What is asked of one crate: edits of it, its functions, and what they are called."""
 
-    def __init__(self, room, name):
+    def __init__(self, room, name, edits):
         self.room, self.name, self.crate, self.seconds = room, name, room.crates[name], 0.0
         self.folder, self.kept = f"{room.top}/crates/{name}", f"{room.top}/checked-{name}"
         self.functions, self.homes = functions_of(self.folder), homes_of(self.folder)
@@ -255,7 +257,7 @@ class Asked:
             for it, body in theirs.items():
                 self.calls[it] = {other for other in re.findall(rf'"{name}::([^"]+)"', body) if other in theirs and other != it}
         self.names = {it: self.name_of(it) for it in self.functions}
-        self.edits = edits_of(name)
+        self.edits = [Edit(name, it) for it in edits]
         for edit in self.edits:
             self.read(edit)
 
@@ -452,14 +454,14 @@ def children_took():
     return used.ru_utime + used.ru_stime
 
 
-def try_apart(crates, room):
-    """Tries each edit alone, as the gate does, and returns the labels of all and of those that were refused."""
+def try_apart(asked, room):
+    """Tries each edit alone, as `rt ci` does, and returns the labels of all and of those that were refused."""
     top, refused = f"{room}/tree", set()
     os.mkdir(top)
     parts = [f"{TOP}/{it}" for it in sorted(os.listdir(TOP)) if it != ".git"]
     subprocess.run(["cp", "-al", *parts, top], check=True)
-    edits = set().union(*(put_in(crate, top) for crate in crates))
-    ran = subprocess.Popen(["rt", "must-fail", *crates], cwd=top, stdout=subprocess.PIPE, stderr=subprocess.STDOUT, text=True, errors="replace")
+    edits = set().union(*(put_in(crate, names, top) for crate, names in asked.items()))
+    ran = subprocess.Popen(["rt", "must-fail", *asked], cwd=top, stdout=subprocess.PIPE, stderr=subprocess.STDOUT, text=True, errors="replace")
     for line in ran.stdout:
         print(line, end="", flush=True)
         refused.update(REFUSED.findall(line))
@@ -470,16 +472,16 @@ def try_apart(crates, room):
     return 1 if left else status
 
 
-def try_together(crates, room):
+def try_together(asked, room):
     """Tries the edits of each crate in groups."""
     copy, refused, every = Room(room), 0, 0
-    for crate in crates:
-        every += len(os.listdir(f"{HERE}/edits/{crate}"))
+    for crate, names in asked.items():
+        every += len(names)
         lacking = copy.lacking(crate)
         if lacking:
             print(f"{crate}: none is tried, since no `rt ci` on this machine has kept the proof of {lacking} as it stands: `rt ci {lacking}`")
         else:
-            refused += Asked(copy, crate).run()
+            refused += Asked(copy, crate, names).run()
     print(f"{refused} refused, {every - refused} not")
     return 1 if refused < every else 0
 
@@ -489,15 +491,17 @@ def main(*words):
         found = list(misfits())
         print("".join(f"{it}\n" for it in found), end="")
         return 1 if found else 0
-    crates = [it for it in words if it != "--apart"] or sorted(os.listdir(f"{HERE}/edits"))
-    for crate in crates:
-        if not os.path.isdir(f"{HERE}/edits/{crate}") or not os.path.isdir(f"{TOP}/crates/{crate}"):
-            print(f"{crate}: it has no folder in edits/, or is no crate", file=sys.stderr)
+    asked = {}
+    for word in [it for it in words if it != "--apart"] or sorted(os.listdir(f"{HERE}/edits")):
+        crate, _, name = word.partition("/")
+        if not os.path.exists(f"{HERE}/edits/{crate}/{name and name + '.edit'}") or not os.path.isdir(f"{TOP}/crates/{crate}"):
+            print(f"{word}: there is no such crate or edit in edits/", file=sys.stderr)
             return 2
+        asked[crate] = [*asked.get(crate, []), *([f"{name}.edit"] if name else edits_in(crate))]
     room = tempfile.mkdtemp(prefix="wrong-", dir=os.path.dirname(TOP))
     signal.signal(signal.SIGTERM, lambda *_: sys.exit(128 + signal.SIGTERM))
     try:
-        return (try_apart if "--apart" in words else try_together)(crates, room)
+        return (try_apart if "--apart" in words else try_together)(asked, room)
     finally:
         shutil.rmtree(room, ignore_errors=True)
 
