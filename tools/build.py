@@ -11,8 +11,8 @@ hard links to what is built below. `rt` takes a built library by the sum of its 
 back to the tree's out/ folders, also of a library that isn't done, so that the next build goes on from there.
 
 Another copy of the tree is made ready for work on a crate by this, too; or by `cp -a`, or hard links (`cp -al`), of whole crates with their
-out/ folders, times kept, if the lines of crates.txt are the same. What `rt ci` makes doesn't carry over so. What `rt check` and `rt lib` made
-in one copy the others on the machine go on from.
+out/ folders, times kept, if the lines of crates.txt are the same. What `rt check` and `rt lib` made in one copy the others on the machine go on
+from. What `rt ci` proved carries over by tools/kept_libraries.py.
 
 Linux shares processors among sessions before it looks at `nice`: a build beside scripts that `setsid` started gets one share of several.
 `echo -15 > /proc/PID/autogroup` gives it most of them, and 19 least.
