@@ -10,7 +10,8 @@ crate:
 - of the functions that the group changes, their proofs are checked, with all that stands in their folders of proofs/;
 - every other function of the crate is taken by its contract: its proof there is a hole, which the check goes past (--allow-holes). That the
   crate is proved as it stands isn't asked again but demanded: `rt ci` has kept its proof, and those of the libraries below, on this machine,
-  by the sums of their files, and gives these libraries;
+  by the sums of their files, and gives these libraries. With --after, which the gate says, it has passed in this tree just now; where it had
+  no room to keep them they are taken as it left them;
 - one check comes before, with no edit: each function that one changes is proved there, over the contracts of the others. So what is refused
   later is refused for the edit.
 
@@ -211,10 +212,10 @@ def homes_of(folder):
 
 
 class Room(Libraries):
-    """A copy of the crates, with libraries that `rt ci` has kept."""
+    """A copy of the crates, with libraries that `rt ci` has kept; or, if it ended in this tree just now, those that it left."""
 
-    def __init__(self, room):
-        self.top = f"{room}/tree"
+    def __init__(self, room, is_after):
+        self.top, self.is_after = f"{room}/tree", is_after
         os.makedirs(f"{self.top}/crates")
         for name in ("crates.txt", "HANDLES"):
             shutil.copy2(f"{TOP}/{name}", self.top)
@@ -223,6 +224,12 @@ class Room(Libraries):
                 if os.path.isdir(f"{TOP}/crates/{crate}/{part}"):
                     shutil.copytree(f"{TOP}/crates/{crate}/{part}", f"{self.top}/crates/{crate}/{part}")
         super().__init__(self.top)
+
+    def give(self, crate):
+        left = f"{TOP}/crates/{crate.name}/out/rlib"
+        if not super().give(crate) and self.is_after and os.path.isdir(left):
+            shutil.copytree(left, f"{crate.folder}/out/rlib")
+        return crate.is_static or os.path.isdir(f"{crate.folder}/out/rlib")
 
 
 class Tried:
@@ -472,9 +479,9 @@ def try_apart(asked, room):
     return 1 if left else status
 
 
-def try_together(asked, room):
+def try_together(asked, room, is_after):
     """Tries the edits of each crate in groups."""
-    copy, refused, every = Room(room), 0, 0
+    copy, refused, every = Room(room, is_after), 0, 0
     for crate, names in asked.items():
         every += len(names)
         lacking = copy.lacking(crate)
@@ -491,17 +498,18 @@ def main(*words):
         found = list(misfits())
         print("".join(f"{it}\n" for it in found), end="")
         return 1 if found else 0
-    asked = {}
-    for word in [it for it in words if it != "--apart"] or sorted(os.listdir(f"{HERE}/edits")):
+    flags, asked = [it for it in words if it in ("--apart", "--after")], {}
+    for word in [it for it in words if it not in flags] or sorted(os.listdir(f"{HERE}/edits")):
         crate, _, name = word.partition("/")
         if not os.path.exists(f"{HERE}/edits/{crate}/{name and name + '.edit'}") or not os.path.isdir(f"{TOP}/crates/{crate}"):
             print(f"{word}: there is no such crate or edit in edits/", file=sys.stderr)
             return 2
         asked[crate] = [*asked.get(crate, []), *([f"{name}.edit"] if name else edits_in(crate))]
-    room = tempfile.mkdtemp(prefix="wrong-", dir=os.path.dirname(TOP))
+    # (apart, what is built is linked from this tree)
+    room = tempfile.mkdtemp(prefix="wrong-", dir=os.path.dirname(TOP) if "--apart" in flags else None)
     signal.signal(signal.SIGTERM, lambda *_: sys.exit(128 + signal.SIGTERM))
     try:
-        return (try_apart if "--apart" in words else try_together)(asked, room)
+        return try_apart(asked, room) if "--apart" in flags else try_together(asked, room, "--after" in flags)
     finally:
         shutil.rmtree(room, ignore_errors=True)
 
