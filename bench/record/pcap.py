@@ -20,8 +20,9 @@ TOOL = os.path.join(HERE, "..", "..", "contrib", "pcap2script")
 SETTINGS = """workers = 1
 ring = 8
 history = 128
-timeout_ms = 60
+timeout_ms = 100
 report_ms = 60000
+tick_ms = 10
 pli_gap_ms = 0
 unit_ssrc = 9
 cname = "sfu"
@@ -71,7 +72,12 @@ SENT = [
     (25, "one", 6000, 5004, rtp(29991, 16, 2**31)),  # it began anew
     (26, "two", 6001, 5004, rtp(1, 18)),  # a stranger
     (27, "one", 6000, 5006, rtp(2, 16)),  # to somebody else
-    (31, "unit", 5004, 6000, rtp(3, 16)),  # from the unit
+    (33, "one", 6000, 5004, rtp(100, 17, 0)),
+    (38, "one", 6000, 5004, rtp(101, 17, 450)),
+    (58, "one", 6000, 5004, rtp(5000, 17, 2250)),  # its timestamp went on with the clock: no beginning
+    (58, "one", 6001, 5005, bytes.fromhex("81cb000100000011")),
+    (59, "one", 6000, 5004, rtp(9, 17)),  # the first one after its BYE
+    (60, "unit", 5004, 6000, rtp(3, 16)),  # from the unit
 ]
 
 WANTED = f"""hear 0 2 80c9000100000012
@@ -89,6 +95,15 @@ hear 25 0 {rtp(29999, 16).hex()}
 hear 25 0 81cb000100000010
 hear 25 0 {rtp(29990, 16, 2**31).hex()}
 hear 25 0 {rtp(29991, 16, 2**31).hex()}
+tick 30
+hear 33 1 {rtp(100, 17, 0).hex()}
+hear 38 1 {rtp(101, 17, 450).hex()}
+tick 40
+hear 50 2 80c9000100000012
+tick 50
+hear 58 1 {rtp(5000, 17, 2250).hex()}
+hear 58 1 81cb000100000011
+hear 59 1 {rtp(9, 17).hex()}
 """
 WANTED = "".join(f"{line}\nfollow\n" for line in WANTED.splitlines())
 
