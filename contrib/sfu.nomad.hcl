@@ -50,6 +50,9 @@ job "sfu" {
       driver = "exec"
       user   = "nobody"
 
+      # As the first process of its namespace it ignores SIGINT, and is killed after so long.
+      kill_timeout = "1s"
+
       config {
         command = "/usr/bin/sfu"
         args    = ["serve", "${NOMAD_TASK_DIR}/conference.toml", "--status", "60", "--log-why"]
