@@ -12,7 +12,7 @@ table says how long FFmpeg showed no picture.
 What can be seen first: a client's first packet; of a viewer that died the moment from which on its last report isn't shown; of loss the unit's first report to
 the publisher that says so.
 
-The status is 1 if `why` was later than WITHIN seconds, the page later than PAGE_WITHIN or begins with something else, the replay says nothing of it, or the
+The status is 1 if `why` was later than WITHIN seconds, the page later than PAGE_WITHIN after that or begins with something else, the replay says nothing of it, or the
 viewer was dark for longer than WITHIN. Wanted: what `run.py` wants of FFmpeg and GStreamer. By hand: nothing of it is proved.
 """
 
