@@ -21,7 +21,12 @@ sfu - selective forwarding unit for RTP, and the sets of rates that it announces
 ## SYNOPSIS
 
 ```
-sfu serve FILE [--ticks N] [--status SECONDS]
+sfu serve FILE [--ticks N] [--status SECONDS] [--control PATH] [--numbers PATH] [--log-time] [--log-why]
+          [--record PATH [--record-limit BYTES] [--record-next]]
+sfu ask PATH WORD..
+sfu page PATH ADDRESS [--anyone] [--host NAME]
+sfu sdp FILE ENDPOINT..
+sfu settings FILE
 sfu replay FILE [--only-leg N] [--only-endpoint N] [--from MOMENT] [--events] [--gaps MS] [--utc]
            [--other-settings] < SCRIPT
 sfu bound --sender N < LINES
@@ -32,8 +37,9 @@ sfu check FILE
 ## DESCRIPTION
 
 `sfu` is the server in the middle of a conference (RFC 7667, section 3.7): each endpoint sends its media once, to the unit, and
-the unit sends it what it subscribes to. `sfu serve` runs it on a UDP socket by the settings in a file (**sfu.toml**(5)).
-`sfu replay` plays a script through the unit. `sfu bound` prints the set of rates that is announced for the requests in a list of
+the unit sends it what it subscribes to. `sfu serve` runs it on a UDP socket, or on two, by the settings in a file (**sfu.toml**(5)).
+`sfu ask` asks and steers a unit that runs, `sfu page` shows it by HTTP, `sfu sdp` describes what endpoints receive, and `sfu settings`
+checks a file. `sfu replay` plays a script through the unit. `sfu bound` prints the set of rates that is announced for the requests in a list of
 datagrams, with a certificate; `sfu check` says whether such a certificate holds.{drawn}
 """
 
