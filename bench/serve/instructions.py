@@ -19,7 +19,7 @@ import time
 PUBLISHER, SUBSCRIBER, LEG, NOT_KEPT = 16, 17, 4096, 30000
 # How many packets come first, so that the ring is full; how many datagrams are counted, and how many wait at most.
 FIRST, COUNTED, AT_ONCE = 600, 4000, 40
-RULES = ("new_starts", "strict_ssrc", "repeat_ms", "resend_gap_ms", "resend_share", "flood_limit", "entry_limit")
+RULES = ("new_starts", "strict_ssrc", "repeat_ms", "resend_gap_ms", "resend_share", "request_gap_ms", "flood_limit", "entry_limit", "stall_ms")
 SETTINGS = """workers = 1
 ring = 512
 history = 1024

@@ -2,8 +2,17 @@
 
 use std::{fs, io};
 
-const KEYS: [&str; 7] =
-    ["new_starts", "strict_ssrc", "repeat_ms", "resend_gap_ms", "resend_share", FLOOD_LIMIT, "entry_limit"];
+const KEYS: [&str; 9] = [
+    "new_starts",
+    "strict_ssrc",
+    "repeat_ms",
+    "resend_gap_ms",
+    "resend_share",
+    "request_gap_ms",
+    FLOOD_LIMIT,
+    "entry_limit",
+    "stall_ms",
+];
 
 const FLOOD_LIMIT: &str = "flood_limit";
 
