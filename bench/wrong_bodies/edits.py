@@ -226,10 +226,13 @@ class Room(Libraries):
         super().__init__(self.top)
 
     def give(self, crate):
-        left = f"{TOP}/crates/{crate.name}/out/rlib"
-        if not super().give(crate) and self.is_after and os.path.isdir(left):
+        is_given, left = super().give(crate), f"{TOP}/crates/{crate.name}/out/rlib"
+        if is_given or not self.is_after:
+            return is_given
+        # (a static library leaves none)
+        if os.path.isdir(left):
             shutil.copytree(left, f"{crate.folder}/out/rlib")
-        return crate.is_static or os.path.isdir(f"{crate.folder}/out/rlib")
+        return crate.is_static or os.path.isdir(left)
 
 
 class Tried:
